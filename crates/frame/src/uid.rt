@@ -1,0 +1,102 @@
+// UIDs, eight bytes kept together, and how they end.
+use crate::number::number_at;
+use crate::number::number_of;
+use crate::number::wide;
+ghost use mathlib.Core.Path.{_≡_};
+ghost use Prim.Native.Nat.{_+_, _*_, _≤_, _<_, _^_, _/_, _%_};
+ghost use lib.Dec.{eqb};
+ghost use lib.ListN.{length};
+ghost use Rattle.frame.specs.Number.{num, part, bytesOf};
+ghost use Rattle.frame.specs.Ending.{endsIn, endsInSlot, longer, bytesFor, maskAt};
+
+// A UID as one number.
+pub fn uid_number(u: [u8; 8]) -> u64
+    ensures { λ r. ⌜ r ≡ num u ⌝ }
+{
+    number_of(&u)
+}
+
+// The UID at a place of a slice.
+pub fn uid_at(s: &[u8], at: usize) -> [u8; 8]
+    requires { ⌜ at + 8 ≤ length (now s) ⌝ }
+    ensures { λ r. ⌜ r ≡ part at 8 (now (s .entry)) ⌝ }
+{
+    [
+        s[at],
+        s[at + 1],
+        s[at + 2],
+        s[at + 3],
+        s[at + 4],
+        s[at + 5],
+        s[at + 6],
+        s[at + 7],
+    ]
+}
+
+// Whether two UIDs are the same.
+pub fn same_uid(u: [u8; 8], v: [u8; 8]) -> bool
+    ensures { λ r. ⌜ r ≡ eqb (num u) (num v) ⌝ }
+{
+    uid_number(u) == uid_number(v)
+}
+
+// Two to the m.
+pub fn pow2(m: u32) -> u64
+    requires { ⌜ m < 64 ⌝ }
+    ensures { λ r. ⌜ r ≡ 2 ^ m ⌝ }
+{
+    1u64 << m
+}
+
+// The m low bits of a number, and what is above them.
+pub fn low_bits(n: u64, m: u32) -> u64
+    ensures { λ r. ⌜ r ≡ n % 2 ^ m ⌝ }
+{
+    if m < 64 {
+        return n % pow2(m);
+    }
+    n
+}
+
+pub fn high_bits(n: u64, m: u32) -> u64
+    ensures { λ r. ⌜ r ≡ n / 2 ^ m ⌝ }
+{
+    if m < 64 {
+        return n / pow2(m);
+    }
+    0
+}
+
+// Whether a UID ends in a mask of m bits.
+pub fn ends_in(u: [u8; 8], mask: u64, m: u32) -> bool
+    ensures { λ r. ⌜ r ≡ endsIn u mask m ⌝ }
+{
+    low_bits(uid_number(u), m) == mask
+}
+
+// Whether a UID ends in a mask of m bits with the slot above it.
+pub fn ends_in_slot(u: [u8; 8], mask: u64, m: u32, slot: u8) -> bool
+    ensures { λ r. ⌜ r ≡ endsInSlot u mask m slot ⌝ }
+{
+    if ends_in(u, mask, m) {
+        return high_bits(uid_number(u), m) % 16 == wide(slot);
+    }
+    false
+}
+
+// The mask with a slot above it: four bits longer.
+pub fn longer_mask(mask: u64, m: u32, slot: u8) -> u64
+    requires { ⌜ (m ≤ 60) × ((mask < 2 ^ m) × (slot < 16)) ⌝ }
+    ensures { λ r. ⌜ (r ≡ longer mask m slot) × (r < 2 ^ (m + 4)) ⌝ }
+{
+    wide(slot) * pow2(m) + mask
+}
+
+// The m bits of a mask at a place of a frame, what is above them ignored.
+pub fn mask_at(s: &[u8], at: usize, m: u32) -> u64
+    requires { ⌜ (m ≤ 64) × (at + bytesFor m ≤ length (now s)) ⌝ }
+    ensures { λ r. ⌜ (r ≡ maskAt (now (s .entry)) at m) × (r < 2 ^ m) ⌝ }
+{
+    let k = ((m + 7) / 8) as usize;
+    low_bits(number_at(s, at, k), m)
+}
