@@ -1,0 +1,5 @@
+-- What the contracts cite.
+pub mod Hex
+pub mod Lines
+pub mod Runs
+pub mod Words

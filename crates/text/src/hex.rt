@@ -1,0 +1,225 @@
+// Bytes as hex digits, and back.
+ghost use mathlib.Core.Path.{_≡_};
+ghost use Prim.Native.Nat.{_+_, _<_, _≤_};
+ghost use lib.ListN.{length};
+ghost use Rattle.text.specs.Hex.{digitOf, valueOf};
+ghost use Rattle.text.specs.Runs.{Counted, Pieced};
+use crate::words::is_blank;
+use crate::words::skip_blanks;
+
+// What a byte of text is as a hex digit.
+pub enum Nibble {
+    Digit(u8),
+    Other,
+}
+
+// What a run of hex is: so many bytes; the place of a byte that is no hex digit; the place of a digit that stands alone; more bytes than there is
+// room for.
+pub enum Run {
+    Bytes(usize),
+    Bad(usize),
+    Odd(usize),
+    Full,
+}
+
+// What stands at a place of a run: a byte, or the run's end.
+enum Piece {
+    Byte(u8),
+    Stop(Run),
+}
+
+// The capital digit of n, or `?` past 15.
+pub fn digit(n: u8) -> u8
+    ensures { λ r. ⌜ r ≡ digitOf n ⌝ }
+{
+    if n < 10 {
+        return 48 + n;
+    }
+    if n < 16 {
+        return 55 + n;
+    }
+    b'?'
+}
+
+// The value of a digit, capital or small.
+pub fn value(c: u8) -> Nibble
+    ensures { λ r. ⌜ r ≡ valueOf c ⌝ }
+{
+    if c < 48 {
+        return Nibble::Other;
+    }
+    if c < 58 {
+        return Nibble::Digit(c - 48);
+    }
+    if c < 65 {
+        return Nibble::Other;
+    }
+    if c < 71 {
+        return Nibble::Digit(c - 55);
+    }
+    if c < 97 {
+        return Nibble::Other;
+    }
+    if c < 103 {
+        return Nibble::Digit(c - 87);
+    }
+    Nibble::Other
+}
+
+fn high(b: u8) -> u8 {
+    digit(b / 16)
+}
+
+fn low(b: u8) -> u8 {
+    digit(b % 16)
+}
+
+// Two capitals.
+pub fn print_byte(fd: i32, b: u8) {
+    let text = [high(b), low(b)];
+    io::write_all(fd, &text);
+}
+
+// Two capitals a byte, a space between bytes.
+pub fn print_bytes(fd: i32, s: &[u8]) {
+    if s.len() == 0 {
+        return;
+    }
+    print_byte(fd, s[0]);
+    let mut at = 1;
+    while at < s.len() {
+        if s.len() - at <= 32 {
+            print_part(fd, &s[at..]);
+            return;
+        }
+        let end = at + 32;
+        print_part(fd, &s[at..end]);
+        at = end;
+    }
+}
+
+// At most 32 bytes, a space before each.
+fn print_part(fd: i32, s: &[u8]) {
+    let mut text = [0u8; 96];
+    let n = lay(s, &mut text);
+    io::write_all(fd, &text[0..n]);
+}
+
+// The text of s's bytes, a space before each, as far as there is room.
+fn lay(s: &[u8], text: &mut [u8]) -> usize
+    ensures { λ r. ⌜ r ≤ length (now (text .exit)) ⌝ }
+{
+    let mut i = 0;
+    let mut n = 0;
+    while i < s.len() {
+        if text.len() - n < 3 {
+            return n;
+        }
+        put(text, n, s[i]);
+        n += 3;
+        i += 1;
+    }
+    n
+}
+
+fn put(text: &mut [u8], n: usize, b: u8)
+    requires { ⌜ n + 3 ≤ length (now text) ⌝ }
+{
+    text[n] = b' ';
+    text[n + 1] = high(b);
+    text[n + 2] = low(b);
+}
+
+// A UID, given low byte first: high byte first.
+pub fn print_uid(fd: i32, u: [u8; 8]) {
+    let text = [
+        high(u[7]),
+        low(u[7]),
+        high(u[6]),
+        low(u[6]),
+        high(u[5]),
+        low(u[5]),
+        high(u[4]),
+        low(u[4]),
+        high(u[3]),
+        low(u[3]),
+        high(u[2]),
+        low(u[2]),
+        high(u[1]),
+        low(u[1]),
+        high(u[0]),
+        low(u[0]),
+    ];
+    io::write_all(fd, &text);
+}
+
+// Reads pairs of hex digits from s to the start of out. Blanks may stand around pairs, and a `#` behind a blank ends the run.
+pub fn read_bytes(s: &[u8], out: &mut [u8]) -> Run
+    ensures { λ r. ⌜ Counted r (length (now (out .exit))) ⌝ }
+{
+    let mut at = skip_blanks(s, 0);
+    let mut n = 0;
+    while at < s.len() {
+        let p = piece_at(s, at, n, out.len());
+        match p {
+            Piece::Stop(r) => return r,
+            Piece::Byte(b) => {
+                out[n] = b;
+                n += 1;
+                at = skip_blanks(s, at + 2);
+            }
+        }
+    }
+    Run::Bytes(n)
+}
+
+// What stands at s[at], which is no blank, where n bytes were read and there is room for `room`.
+fn piece_at(s: &[u8], at: usize, n: usize, room: usize) -> Piece
+    requires { ⌜ at < length (now s) ⌝ }
+    requires { ⌜ n ≤ room ⌝ }
+    ensures { λ r. ⌜ Pieced r at n (length (now (s .entry))) room ⌝ }
+{
+    let a = value(s[at]);
+    let Nibble::Digit(h) = a else {
+        return Piece::Stop(no_digit(s, at, n, room));
+    };
+    if s.len() - at < 2 {
+        return Piece::Stop(Run::Odd(at));
+    }
+    let c = s[at + 1];
+    if is_blank(c) {
+        return Piece::Stop(Run::Odd(at));
+    }
+    let b = value(c);
+    let Nibble::Digit(l) = b else {
+        return Piece::Stop(Run::Bad(at + 1));
+    };
+    if room <= n {
+        return Piece::Stop(Run::Full);
+    }
+    Piece::Byte(joined(h, l))
+}
+
+fn joined(h: u8, l: u8) -> u8
+    requires { ⌜ (h < 16) × (l < 16) ⌝ }
+{
+    h * 16 + l
+}
+
+// What a byte that is no digit says: a `#` behind a blank ends the run.
+fn no_digit(s: &[u8], at: usize, n: usize, room: usize) -> Run
+    requires { ⌜ at < length (now s) ⌝ }
+    requires { ⌜ n ≤ room ⌝ }
+    ensures { λ r. ⌜ Counted r room ⌝ }
+{
+    if s[at] != b'#' {
+        return Run::Bad(at);
+    }
+    if at == 0 {
+        return Run::Bad(at);
+    }
+    if is_blank(s[at - 1]) {
+        return Run::Bytes(n);
+    }
+    Run::Bad(at)
+}

@@ -1,0 +1,255 @@
+// Lines from a descriptor, through a buffer that the caller lends.
+//
+// A line is what stands before a newline, or before the end of the input, without a carriage return right before its newline. A line of as many
+// bytes as the buffer has, or more, is too long, and is passed over to its newline.
+ghost use Prim.Native.Nat.{_≤_};
+ghost use lib.ListN.{length};
+ghost use Rattle.io.specs.Counts.{Counts};
+ghost use Rattle.text.specs.Lines.{Inside};
+ghost use Rattle.text.specs.Words.{Behind};
+
+// Where the reading stands: buf[start..end] was read and not handed out; `done`: the input has ended; `skip`: within a line that is too long.
+pub struct Source {
+    pub fd: i32,
+    pub start: usize,
+    pub end: usize,
+    pub done: bool,
+    pub skip: bool,
+}
+
+// A line; a line that was too long, now passed; not there yet (a line is too long, and more of it is to be read: call again); the end.
+pub enum Kind {
+    Line,
+    Long,
+    More,
+    End,
+}
+
+// What a call found. A line is buf[from..to], till the next call.
+pub struct Got {
+    pub kind: Kind,
+    pub from: usize,
+    pub to: usize,
+    pub source: Source,
+}
+
+pub fn source_of(fd: i32) -> Source {
+    Source {
+        fd: fd,
+        start: 0,
+        end: 0,
+        done: false,
+        skip: false,
+    }
+}
+
+// What is no line.
+fn other(kind: Kind, source: Source) -> Got
+    ensures { λ r. ⌜ Inside r 0 ⌝ }
+{
+    Got {
+        kind: kind,
+        from: 0,
+        to: 0,
+        source: source,
+    }
+}
+
+fn ended(fd: i32) -> Source {
+    Source {
+        fd: fd,
+        start: 0,
+        end: 0,
+        done: true,
+        skip: false,
+    }
+}
+
+// The next line of a source that was used with this buffer only. It reads until a line is whole, the buffer is full or the input has ended; a read
+// that fails ends the input.
+pub fn next(s: Source, buf: &mut [u8]) -> Got
+    ensures { λ r. ⌜ Inside r (length (now (buf .exit))) ⌝ }
+{
+    let start = s.start;
+    let end = s.end;
+    if buf.len() == 0 {
+        return other(Kind::End, ended(s.fd));
+    }
+    if buf.len() < end {
+        return other(Kind::End, ended(s.fd));
+    }
+    if end < start {
+        return other(Kind::End, ended(s.fd));
+    }
+    if s.skip {
+        return pass(s.fd, buf);
+    }
+    let at = newline(buf, start, end);
+    if at < end {
+        let rest = Source {
+            fd: s.fd,
+            start: at + 1,
+            end: end,
+            done: s.done,
+            skip: false,
+        };
+        return line(buf, start, at, rest);
+    }
+    if s.done {
+        return last(s.fd, start, end);
+    }
+    let n = to_front(buf, start, end);
+    fill(s.fd, n, buf)
+}
+
+// The line buf[from..to], which a newline ends.
+fn line(buf: &[u8], from: usize, to: usize, source: Source) -> Got
+    requires { ⌜ from ≤ to ⌝ }
+    requires { ⌜ to ≤ length (now buf) ⌝ }
+    ensures { λ r. ⌜ Inside r (length (now (buf .entry))) ⌝ }
+{
+    if to == from {
+        return Got {
+            kind: Kind::Line,
+            from: from,
+            to: to,
+            source: source,
+        };
+    }
+    if buf[to - 1] == b'\r' {
+        return Got {
+            kind: Kind::Line,
+            from: from,
+            to: to - 1,
+            source: source,
+        };
+    }
+    Got {
+        kind: Kind::Line,
+        from: from,
+        to: to,
+        source: source,
+    }
+}
+
+// The last line, buf[from..to], which no newline ends, unless nothing is left.
+fn last(fd: i32, from: usize, to: usize) -> Got
+    requires { ⌜ from ≤ to ⌝ }
+    ensures { λ r. ⌜ Inside r to ⌝ }
+{
+    if from == to {
+        return other(Kind::End, ended(fd));
+    }
+    Got {
+        kind: Kind::Line,
+        from: from,
+        to: to,
+        source: ended(fd),
+    }
+}
+
+// The place of the first newline in s[from..to], or `to`.
+fn newline(s: &[u8], from: usize, to: usize) -> usize
+    requires { ⌜ from ≤ to ⌝ }
+    requires { ⌜ to ≤ length (now s) ⌝ }
+    ensures { λ r. ⌜ Behind from r to ⌝ }
+{
+    let mut i = from;
+    while i < to {
+        if s[i] == b'\n' {
+            return i;
+        }
+        i += 1;
+    }
+    i
+}
+
+// Moves buf[start..end] to the front, and answers its length.
+fn to_front(buf: &mut [u8], start: usize, end: usize) -> usize
+    requires { ⌜ start ≤ end ⌝ }
+    requires { ⌜ end ≤ length (now buf) ⌝ }
+    ensures { λ r. ⌜ r ≤ length (now (buf .exit)) ⌝ }
+{
+    let n = end - start;
+    if start == 0 {
+        return n;
+    }
+    let mut i = 0;
+    while i < n {
+        buf[i] = buf[start + i];
+        i += 1;
+    }
+    n
+}
+
+// One read to the start of part: how many bytes it put there.
+fn read_part(fd: i32, part: &mut [u8]) -> usize
+    ensures { λ r. ⌜ Counts r (now (part .exit)) ⌝ }
+{
+    let got = libc::read(fd, part);
+    io::count(got, part)
+}
+
+// Reads behind buf's first n bytes, which have no newline, until a line is whole.
+fn fill(fd: i32, n: usize, buf: &mut [u8]) -> Got
+    requires { ⌜ n ≤ length (now buf) ⌝ }
+    ensures { λ r. ⌜ Inside r (length (now (buf .exit))) ⌝ }
+{
+    let mut end = n;
+    while end < buf.len() {
+        let more = read_part(fd, &mut buf[end..]);
+        if more == 0 {
+            return last(fd, 0, end);
+        }
+        let to = end + more;
+        let at = newline(buf, end, to);
+        if at < to {
+            let rest = Source {
+                fd: fd,
+                start: at + 1,
+                end: to,
+                done: false,
+                skip: false,
+            };
+            return line(buf, 0, at, rest);
+        }
+        end = to;
+    }
+    let rest = Source {
+        fd: fd,
+        start: 0,
+        end: 0,
+        done: false,
+        skip: true,
+    };
+    other(Kind::More, rest)
+}
+
+// Reads on in a line that is too long.
+fn pass(fd: i32, buf: &mut [u8]) -> Got
+    ensures { λ r. ⌜ Inside r (length (now (buf .exit))) ⌝ }
+{
+    let n = read_part(fd, buf);
+    if n == 0 {
+        return other(Kind::Long, ended(fd));
+    }
+    let at = newline(buf, 0, n);
+    if at == n {
+        let rest = Source {
+            fd: fd,
+            start: 0,
+            end: 0,
+            done: false,
+            skip: true,
+        };
+        return other(Kind::More, rest);
+    }
+    let rest = Source {
+        fd: fd,
+        start: at + 1,
+        end: n,
+        done: false,
+        skip: false,
+    };
+    other(Kind::Long, rest)
+}

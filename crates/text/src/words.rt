@@ -1,0 +1,144 @@
+// The first word of an event line. Words are parted by blanks: spaces and tabs.
+ghost use Prim.Native.Nat.{_≤_};
+ghost use lib.ListN.{length};
+ghost use Rattle.text.specs.Words.{Behind};
+
+// The first word of a line: Empty where it has only blanks, Comment where its first byte but blanks is `#`. LabelSeal and ChipSeal are the words
+// with a `+`: the check sum is to be added.
+pub enum Word {
+    Empty,
+    Comment,
+    Off,
+    On,
+    Eof,
+    Label,
+    LabelSeal,
+    Chip,
+    ChipSeal,
+    Draws,
+    Unknown,
+}
+
+// A word and the place behind it: the end of the line for a comment.
+pub struct Said {
+    pub word: Word,
+    pub rest: usize,
+}
+
+pub fn is_blank(c: u8) -> bool {
+    if c == b' ' {
+        return true;
+    }
+    c == b'\t'
+}
+
+// The first place from `from` on that holds no blank, or s's length.
+pub fn skip_blanks(s: &[u8], from: usize) -> usize
+    requires { ⌜ from ≤ length (now s) ⌝ }
+    ensures { λ r. ⌜ Behind from r (length (now (s .entry))) ⌝ }
+{
+    let mut i = from;
+    while i < s.len() {
+        if !is_blank(s[i]) {
+            return i;
+        }
+        i += 1;
+    }
+    i
+}
+
+// The first place from `from` on that holds a blank, or s's length.
+fn word_end(s: &[u8], from: usize) -> usize
+    requires { ⌜ from ≤ length (now s) ⌝ }
+    ensures { λ r. ⌜ Behind from r (length (now (s .entry))) ⌝ }
+{
+    let mut i = from;
+    while i < s.len() {
+        if is_blank(s[i]) {
+            return i;
+        }
+        i += 1;
+    }
+    i
+}
+
+fn same(a: &[u8], b: &[u8]) -> bool {
+    if a.len() != b.len() {
+        return false;
+    }
+    let mut i = 0;
+    while i < a.len() {
+        if a[i] != b[i] {
+            return false;
+        }
+        i += 1;
+    }
+    true
+}
+
+fn named(s: &[u8]) -> Word {
+    if same(s, b"label") {
+        return Word::Label;
+    }
+    if same(s, b"label+") {
+        return Word::LabelSeal;
+    }
+    if same(s, b"chip") {
+        return Word::Chip;
+    }
+    if same(s, b"chip+") {
+        return Word::ChipSeal;
+    }
+    if same(s, b"draws") {
+        return Word::Draws;
+    }
+    if same(s, b"off") {
+        return Word::Off;
+    }
+    if same(s, b"on") {
+        return Word::On;
+    }
+    if same(s, b"eof") {
+        return Word::Eof;
+    }
+    Word::Unknown
+}
+
+pub fn first_word(line: &[u8]) -> Said
+    ensures { λ r. ⌜ r .rest ≤ length (now (line .entry)) ⌝ }
+{
+    let from = skip_blanks(line, 0);
+    if from == line.len() {
+        return Said {
+            word: Word::Empty,
+            rest: from,
+        };
+    }
+    if line[from] == b'#' {
+        return Said {
+            word: Word::Comment,
+            rest: line.len(),
+        };
+    }
+    let to = word_end(line, from);
+    let word = named(&line[from..to]);
+    Said {
+        word: word,
+        rest: to,
+    }
+}
+
+// Whether s has nothing but blanks from `from` on, or blanks and a comment behind them.
+pub fn is_blank_rest(s: &[u8], from: usize) -> bool {
+    if s.len() <= from {
+        return true;
+    }
+    let at = skip_blanks(s, from);
+    if at == s.len() {
+        return true;
+    }
+    if at == from {
+        return false;
+    }
+    s[at] == b'#'
+}
