@@ -1,0 +1,51 @@
+-- What an answer says stands in the body before the step as after it: a step that answers writes no block, and its stores reach no block and no UID.
+-- Assumes nothing.
+use mathlib.Core.Path.{_≡_, refl, ap}
+use mathlib.Core.Bool.{true}
+use mathlib.Core.List.{List, [], _∷_}
+use Prim.Native.Nat.{ℕ, _≤_}
+use native.Mathlib.Omega.{arith}
+use lib.ListN.{length, drop, length-take}
+use Rattle.frame.specs.Number.{num, part}
+use Rattle.frame.specs.CheckSum.{framed}
+use Rattle.frame.proofs.Frames.{length-framed}
+use Rattle.chip.specs.declared.request.Order.{Order}
+use Rattle.chip.specs.declared.step.Chip.{Chip}
+use Rattle.chip.specs.declared.step.Answer.{Answer}
+use Rattle.chip.specs.declared.step.Answer.the-variants as a
+use Rattle.chip.specs.declared.step.Stepped.{Stepped}
+use Rattle.chip.specs.Body.{loadOf, storeOf, placeOf, named, worked, stepped, nextChip, saidChip}
+use Rattle.chip.specs.Answer.{answerFrame}
+use Rattle.chip.proofs.Shapes.{place-fits}
+use Rattle.chip.proofs.Steps.{Steps, quiet, wrote, steps}
+use Rattle.chip.proofs.Bodies.{store-part}
+
+-- a chip stored changes no answer
+pub frame-store : (x : Answer) (b : List ℕ) (c : Chip) → 76 ≤ length b → answerFrame x (storeOf b c) ≡ answerFrame x b
+unfolding answerFrame
+frame-store a.Silent b c l = refl
+frame-store (a.Id id) b c l = refl
+frame-store (a.Block n) b c l = ap framed (store-part b c (placeOf n) 4 (omega (arith, place-fits n)) l)
+frame-store a.Uid b c l = ap framed (store-part b c 68 8 (omega arith) l)
+
+pub same-frame : (order : Order) (d : ℕ) (b : List ℕ) → length b ≡ 80
+    → answerFrame (saidChip order d b) (nextChip order d b) ≡ answerFrame (saidChip order d b) b
+unfolding saidChip nextChip stepped worked answerFrame
+same-frame order d b l = go (stepped order d b) (steps order d (named order b) (num (part 64 4 b)) (loadOf b))
+  where
+    go : (x : Stepped) → Steps order d (named order b) (num (part 64 4 b)) (loadOf b) x
+        → answerFrame (x .answer) (worked (x .work) (storeOf b (x .next))) ≡ answerFrame (x .answer) b
+    go x (quiet next answer h) = frame-store answer b next (omega arith)
+    go x (wrote n v next q z k h) = refl
+
+-- a part is no longer than it is to be
+part-short : (at k : ℕ) (b : List ℕ) → length (part at k b) ≤ k
+part-short at k b = rw (length-take k (drop at b)) (omega arith)
+
+-- the longest answer is a UID with its check sum
+pub frame-short : (x : Answer) (b : List ℕ) → length (answerFrame x b) ≤ 10
+unfolding answerFrame
+frame-short a.Silent b = omega arith
+frame-short (a.Id id) b = omega (arith, length-framed 0xFFFF true (id ∷ []))
+frame-short (a.Block n) b = omega (arith, length-framed 0xFFFF true (part (placeOf n) 4 b), part-short (placeOf n) 4 b)
+frame-short a.Uid b = omega (arith, length-framed 0xFFFF true (part 68 8 b), part-short 68 8 b)

@@ -1,0 +1,10 @@
+-- The laws of a chip, for its own proofs and for those of the crates above.
+pub mod Bools
+pub mod Shapes
+pub mod Laid
+pub mod Steps
+pub mod Bodies
+pub mod Keeps
+pub mod Answers
+pub mod Floor
+pub mod Marked

@@ -1,0 +1,52 @@
+-- What code needs of the definitions: where they test in another order, where an enum is not of one variant, where a block stands.
+-- Assumes nothing.
+use mathlib.Core.Path.{_≡_, refl}
+use mathlib.Core.Bool.{Bool, true, false, not}
+use mathlib.Core.List.{List, [], _∷_}
+use Prim.Native.Nat.{ℕ, _+_, _*_, _^_, _≤_, _<_}
+use native.Mathlib.Omega.{arith}
+use lib.Dec.{ltb}
+use lib.ListN.{drop, length-take}
+use types.Run.{OneOf, miss}
+use denote.Enum.Declared.{tagOf}
+use borrow.Author.Tests.{ltb-true}
+use Rattle.frame.specs.Choose.{if_then_else_}
+use Rattle.frame.specs.Number.{num, part, Bytes}
+use Rattle.frame.proofs.Numbers.{num-lt, bytes-part}
+use Rattle.chip.specs.declared.request.Order.{Order}
+use Rattle.chip.specs.declared.request.Order.the-variants as o
+use Rattle.chip.specs.Body.{named, placeOf}
+use Rattle.chip.proofs.request.Order.{the-type}
+
+-- four bytes make a number below 2 ^ 32
+pub word-lt : (at : ℕ) (s : List ℕ) → Bytes s → num (part at 4 s) < 2 ^ 32
+word-lt at s h = num-lt 4 (part at 4 s) (bytes-part at 4 s h) (rw (length-take 4 (drop at s)) (omega arith))
+
+-- a block stands before the UID
+pub place-fits : (n : ℕ) → placeOf n + 4 ≤ 68
+unfolding placeOf
+place-fits n = go (ltb n 16) (ltb-true n 16)
+  where
+    go : (t : Bool) → (t ≡ true → n < 16) → (if t then 4 * n else 64) + 4 ≤ 68
+    go true f = let h : n < 16 = f refl in omega arith
+    go false f = omega arith
+
+-- the variants but Write, by their places
+abbrev others : List ℕ
+others = 0 ∷ 1 ∷ 2 ∷ 3 ∷ 4 ∷ 5 ∷ 6 ∷ 7 ∷ 8 ∷ 9 ∷ 10 ∷ []
+
+-- only a write names a block
+pub unnamed : (x : Order) (b : List ℕ) → OneOf others (tagOf the-type x) → 0 ≡ named x b
+unfolding named
+unnamed o.Ignored b k = refl
+unnamed o.Off b k = refl
+unnamed o.On b k = refl
+unnamed o.Initiate b k = refl
+unnamed o.Pcall b k = refl
+unnamed (o.Marker n) b k = refl
+unnamed (o.Select id) b k = refl
+unnamed o.Completion b k = refl
+unnamed o.Reset b k = refl
+unnamed (o.Read n) b k = refl
+unnamed o.Uid b k = refl
+unnamed (o.Write n v) b k = absurd (miss others 11 tt k)
