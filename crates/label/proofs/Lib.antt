@@ -1,0 +1,20 @@
+-- The laws of the crate's definitions, for its own proofs and for those of the crates above.
+pub mod Cases
+pub mod Lookup
+pub mod Requests
+pub mod Judging
+pub mod Decoded
+pub mod Fine
+pub mod Back
+pub mod Others
+pub mod Sets
+pub mod Room
+pub mod Stored
+pub mod Laying
+pub mod Ways
+pub mod Fitting
+pub mod Worked
+pub mod Keeps
+pub mod Answers
+pub mod Slots
+pub mod Floor

@@ -1,0 +1,148 @@
+-- The ways a label's step goes, one for each end of the definition's tests, with what holds there. A law over every request is by the ways.
+-- Assumes nothing.
+use mathlib.Core.Path.{_≡_, refl}
+use mathlib.Core.Bool.{Bool, true, false, not, _&&_}
+use mathlib.Core.List.{List}
+use Prim.Native.Nat.{ℕ, _+_, _^_, _≤_, _<_}
+use lib.Dec.{eqb, ltb}
+use lib.ListN.{getD}
+use borrow.Author.Tests.{eqb-true, eqb-false, ltb-true, ltb-false, not-false}
+use Rattle.frame.specs.Choose.{if_then_else_, bit, set?}
+use Rattle.frame.specs.Ending.{endsIn, endsInSlot}
+use Rattle.frame.proofs.Bools.{and-both}
+use Rattle.label.specs.declared.request.Target.{Target}
+use Rattle.label.specs.declared.request.Family.{Family}
+use Rattle.label.specs.declared.request.Order.{Order}
+use Rattle.label.specs.declared.request.Order.the-variants as o
+use Rattle.label.specs.declared.request.Call.{Call}
+use Rattle.label.specs.declared.request.Call.the-variants as k
+use Rattle.label.specs.declared.request.Request.{Request}
+use Rattle.label.specs.declared.step.Label.{Label}
+use Rattle.label.specs.declared.step.Answer.{Answer}
+use Rattle.label.specs.declared.step.Answer.the-variants as a
+use Rattle.label.specs.declared.step.Work.the-variants as w
+use Rattle.label.specs.declared.step.Stepped.{Stepped}
+use Rattle.label.specs.Request.{Sound, Small}
+use Rattle.label.specs.Step.{withState, withSlot, withAfi, withDsfid, withLocks, ended, told, silent, done, off, on, passes, ready, turn, inventory, endOfFrame, acts, readBlock, writeBlock, lockBlock, writeAfi, lockAfi, writeDsfid, lockDsfid, perform, passed, asked, awake, called, act}
+use Rattle.label.specs.Body.{lockOf, named, lockAt}
+
+-- found or silent
+abbrev pub turned : Bool → Answer
+turned true = a.Found
+turned false = a.Silent
+
+-- an answer that leaves the label be: a block that it gives is there
+unfoldable pub Calm : Answer → Label → Type 0
+Calm a.Silent l = Unit
+Calm (a.Error e) l = Unit
+Calm a.Done l = Unit
+Calm a.Found l = Unit
+Calm (a.Block n lock) l = n ≤ l .blocks
+Calm a.Info l = Unit
+
+pub data Way (call : Call) (count lock : ℕ) (l : Label) : Stepped → Type 0 where
+  stays : Way call count lock l (silent l)
+  offs : Way call count lock l (silent (withState 0 (ended l)))
+  wakes : l .state ≡ 0 → Way call count lock l (silent (withState 1 l))
+  moves : (t : Bool) → l .slot < 15 → Way call count lock l (told (turned t) (withSlot (l .slot + 1) (l .bits) (l .mask) l))
+  starts : (t : Bool) (m e : ℕ) → (Sound call → (m ≤ 60) × (e < 2 ^ m)) → ready l ≡ true → Way call count lock l (told (turned t) (withSlot 0 m e (ended l)))
+  says : (x : Answer) → Calm x l → Way call count lock l (told x (ended l))
+  hushes : Way call count lock l (silent (withState 2 (ended l)))
+  selects : Way call count lock l (done (withState 3 (ended l)))
+  readies : Way call count lock l (done (withState 1 (ended l)))
+  drops : Way call count lock l (silent (withState 1 (ended l)))
+  writes : (n : ℕ) → ((b : List ℕ) → named call b ≡ getD b (lockAt n) 0) → count ≡ l .size + 1 → n ≤ l .blocks → (lock ≡ 1 → ⊥)
+      → Way call count lock l (record { next = ended l; answer = a.Done; work = w.Write n })
+  locks : (n : ℕ) → ((b : List ℕ) → named call b ≡ getD b (lockAt n) 0) → n ≤ l .blocks → (lock ≡ 1 → ⊥)
+      → Way call count lock l (record { next = ended l; answer = a.Done; work = w.Lock n })
+  afis : (v : ℕ) → (Sound call → v < 256) → (bit 0 (l .locks) ≡ 1 → ⊥) → Way call count lock l (done (withAfi v (ended l)))
+  dsfids : (v : ℕ) → (Sound call → v < 256) → (bit 1 (l .locks) ≡ 1 → ⊥) → Way call count lock l (done (withDsfid v (ended l)))
+  afiLocks : (bit 0 (l .locks) ≡ 1 → ⊥) → Way call count lock l (done (withLocks (l .locks + 1) (ended l)))
+  dsfidLocks : (bit 1 (l .locks) ≡ 1 → ⊥) → Way call count lock l (done (withLocks (l .locks + 2) (ended l)))
+
+module _ (call : Call) (count lock : ℕ) (l : Label) where
+  either : (t : Bool) {x y : Stepped} → (t ≡ true → Way call count lock l x) → (t ≡ false → Way call count lock l y)
+      → Way call count lock l (if t then x else y)
+  either true f g = f refl
+  either false f g = g refl
+
+  awake-way : (s : Stepped) → Way call count lock l s → Way call count lock l (awake s l)
+  awake-way s x = either (eqb (l .state) 0) (λ e. stays) (λ e. x)
+
+  end-way : Way call count lock l (endOfFrame l)
+  unfolding endOfFrame turn Calm
+  end-way =
+      either (ltb (l .slot) 15)
+      (λ e. either (endsInSlot (l .uid) (l .mask) (l .bits) (l .slot + 1)) (λ x. moves true (ltb-true _ _ e)) (λ x. moves false (ltb-true _ _ e)))
+      (λ e. either (eqb (l .slot) 15) (λ x. says a.Silent tt) (λ x. stays))
+
+way-inventory : (family : Family) (sixteen : Bool) (m e count lock : ℕ) (l : Label)
+    → Way (k.Inventory family sixteen m e) count lock l (inventory family sixteen m e l)
+unfolding inventory turn Calm Sound ended
+way-inventory family true m e count lock l =
+    either _ count lock l (ready l && passes family (l .afi))
+    (λ y. let r = and-both (ready l) (passes family (l .afi)) y .0 in
+    either _ count lock l (endsInSlot (l .uid) e m 0) (λ x. starts true m e (λ s. s) r) (λ x. starts false m e (λ s. s) r))
+    (λ n. says a.Silent tt)
+way-inventory family false m e count lock l =
+    either _ count lock l (ready l && passes family (l .afi))
+    (λ y. either _ count lock l (endsIn (l .uid) e m) (λ x. says a.Found tt) (λ x. says a.Silent tt))
+    (λ n. says a.Silent tt)
+
+module _ (to : Target) (count lock : ℕ) (l : Label) where
+  performs : (x : Order) → Way (k.Ask to x) count lock l (perform x count lock (ended l))
+  unfolding perform readBlock writeBlock lockBlock writeAfi lockAfi writeDsfid lockDsfid Calm Sound Small named lockOf ended
+  performs o.Nothing = says a.Silent tt
+  performs (o.Fault e) = says (a.Error e) tt
+  performs o.Quiet = hushes
+  performs (o.Read n b) = either _ count lock l (ltb (l .blocks) n) (λ e. says (a.Error 0x10) tt) (λ e. says (a.Block n b) (ltb-false _ _ e))
+  performs (o.Write n b) =
+      either _ count lock l (not (eqb count (l .size + 1))) (λ e. says (a.Error 0x02) tt)
+      (λ e. either _ count lock l b (λ x. says (a.Error 0x03) tt)
+      (λ x. either _ count lock l (ltb (l .blocks) n) (λ y. says (a.Error 0x10) tt)
+      (λ y. either _ count lock l (eqb lock 1) (λ z. says (a.Error 0x12) tt)
+      (λ z. writes n (λ c. refl) (eqb-true _ _ (not-false (eqb count (l .size + 1)) e)) (ltb-false _ _ y) (eqb-false _ _ z)))))
+  performs (o.Lock n) =
+      either _ count lock l (ltb (l .blocks) n) (λ y. says (a.Error 0x10) tt)
+      (λ y. either _ count lock l (eqb lock 1) (λ z. says (a.Error 0x11) tt)
+      (λ z. locks n (λ c. refl) (ltb-false _ _ y) (eqb-false _ _ z)))
+  performs o.Select = selects
+  performs o.Ready = readies
+  performs (o.WriteAfi v) = either _ count lock l (set? (bit 0 (l .locks))) (λ e. says (a.Error 0x12) tt) (λ e. afis v (λ s. s) (eqb-false _ _ e))
+  performs o.LockAfi = either _ count lock l (set? (bit 0 (l .locks))) (λ e. says (a.Error 0x11) tt) (λ e. afiLocks (eqb-false _ _ e))
+  performs (o.WriteDsfid v) = either _ count lock l (set? (bit 1 (l .locks))) (λ e. says (a.Error 0x12) tt) (λ e. dsfids v (λ s. s) (eqb-false _ _ e))
+  performs o.LockDsfid = either _ count lock l (set? (bit 1 (l .locks))) (λ e. says (a.Error 0x11) tt) (λ e. dsfidLocks (eqb-false _ _ e))
+  performs o.Info = says a.Info tt
+
+  passes-by : (x : Order) → Way (k.Ask to x) count lock l (passed x (ended l))
+  unfolding passed Calm
+  passes-by o.Nothing = says a.Silent tt
+  passes-by (o.Fault e) = says a.Silent tt
+  passes-by o.Quiet = says a.Silent tt
+  passes-by (o.Read n b) = says a.Silent tt
+  passes-by (o.Write n b) = says a.Silent tt
+  passes-by (o.Lock n) = says a.Silent tt
+  passes-by o.Select = either _ count lock l (eqb (ended l .state) 3) (λ e. drops) (λ e. says a.Silent tt)
+  passes-by o.Ready = says a.Silent tt
+  passes-by (o.WriteAfi v) = says a.Silent tt
+  passes-by o.LockAfi = says a.Silent tt
+  passes-by (o.WriteDsfid v) = says a.Silent tt
+  passes-by o.LockDsfid = says a.Silent tt
+  passes-by o.Info = says a.Silent tt
+
+  way-asked : (uid : List ℕ) (x : Order) → Way (k.Ask to x) count lock l (asked to uid x count lock l)
+  unfolding asked
+  way-asked uid x = either _ count lock l (acts to uid l) (λ e. performs x) (λ e. passes-by x)
+
+way-called : (call : Call) (uid : List ℕ) (count lock : ℕ) (l : Label) → Way call count lock l (called call uid count lock l)
+unfolding called off on
+way-called k.Ignored uid count lock l = stays
+way-called k.Off uid count lock l = offs
+way-called k.On uid count lock l = either _ count lock l (eqb (l .state) 0) (λ e. wakes (eqb-true _ _ e)) (λ e. stays)
+way-called k.EndOfFrame uid count lock l = awake-way _ count lock l _ (end-way _ count lock l)
+way-called (k.Inventory family sixteen m e) uid count lock l = awake-way _ count lock l _ (way-inventory family sixteen m e count lock l)
+way-called (k.Ask to x) uid count lock l = awake-way _ count lock l _ (way-asked to count lock l uid x)
+
+pub way : (r : Request) (count lock : ℕ) (l : Label) → Way (r .call) count lock l (act r count lock l)
+unfolding act
+way r count lock l = way-called (r .call) (r .uid) count lock l

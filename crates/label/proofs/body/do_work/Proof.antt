@@ -1,0 +1,53 @@
+-- The arms of the definition; what fits the body is inside it.
+-- Assumes nothing.
+use mathlib.Core.Path.{_≡_, _∙_}
+use mathlib.Core.List.{List}
+use Prim.Native.Nat.{ℕ}
+use denote.Ref.{now}
+use lib.ListN.{length, take}
+use lib.Seq.{sets, take-length}
+use borrow.Author.Needs.{needs}
+use Rattle.label.specs.declared.step.Work.{Work}
+use Rattle.label.specs.declared.step.Work.the-variants as w
+use Rattle.label.specs.Body.{blockAt, Fits, worked}
+use Rattle.label.proofs.Room.{sized-long, block-fits, lock-fits}
+use Rattle.label.proofs.body.do_work.Statement.{statement}
+use Rattle.label.proofs.body.do_work.Tie as tie
+
+written : {y : List ℕ} {at : ℕ} (work : Work) (n : ℕ) (b d : List ℕ) → work ≡ w.Write n → at ≡ blockAt b n → y ≡ sets b at (take (length d) d) → y ≡ worked work d b
+unfolding worked
+written work n b d e f g = g ∙ rw (e, f, take-length)
+
+put-bytes-requires : tie.Need-put-bytes-requires
+unfolding worked Fits
+put-bytes-requires c κs =
+    let s = c .before .before .before .before .before .before .before .before .args in
+    let f : Fits (s .work) (length (now (s .«data»))) (now (s .b)) = c .before .before .before .before .before .before .before .before .pre .1 in
+    let g = rw (c .before .before .before .before .work .given .1) at f in
+    (rw (c .before .place .ensures, g .1) (block-fits (now (s .b)) _ (c .before .before .before .before .before .before .before .before .pre .0) (g .0)), search needs)
+
+slice-write-b : tie.Need-slice-write-b
+unfolding worked Fits
+slice-write-b c =
+    let s = c .before .before .before .before .before .args in
+    let f : Fits (s .work) (length (now (s .«data»))) (now (s .b)) = c .before .before .before .before .before .pre .1 in
+    lock-fits (now (s .b)) _ (c .before .before .before .before .before .pre .0) (rw (c .before .work2 .given .1) at f)
+
+pub do-work-spec : {M : Type 1} → statement M
+unfolding worked Fits
+do-work-spec =
+    tie.close
+    (tie.spec
+    (λ c. search needs)
+    (λ c. search needs)
+    (λ c κs. sized-long (now (c .before .before .before .before .before .before .args .b)) (c .before .before .before .before .before .before .pre .0))
+    put-bytes-requires
+    (λ c. search needs)
+    (λ c. search needs)
+    (λ c. search needs)
+    slice-write-b
+    (λ c. rw (c .enum-told .given .1))
+    (λ c. search needs)
+    (λ c. written _ _ _ _ (c .before .before .before .before .before .before .before .work .given .1) (c .before .before .before .before .place .ensures) (c .before .before .put-bytes .ensures .1))
+    (λ c. search needs)
+    (λ c. rw (c .before .work2 .given .1)))

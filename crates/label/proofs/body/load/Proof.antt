@@ -1,0 +1,24 @@
+-- Each field is read where the definition reads it.
+-- Assumes nothing.
+use borrow.Author.Needs.{needs}
+use Rattle.label.specs.Body.{loadOf}
+use Rattle.label.proofs.body.load.Statement.{statement}
+use Rattle.label.proofs.body.load.Tie as tie
+
+pub load-spec : {M : Type 1} → statement M
+unfolding loadOf
+load-spec =
+    tie.close
+    (tie.spec
+    (λ c κs. search needs)
+    (λ c κs. search needs)
+    (λ c. search needs)
+    (λ c. search needs)
+    (λ c. search needs)
+    (λ c. search needs)
+    (λ c. search needs)
+    (λ c. search needs)
+    (λ c. search needs)
+    (λ c. search needs)
+    (λ c. search needs)
+    (λ c. rw (c .before .before .before .before .before .before .before .before .before .before .uid-at .ensures, c .before .before .before .before .before .before .before .before .before .number-at .ensures)))

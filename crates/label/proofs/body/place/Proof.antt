@@ -1,0 +1,27 @@
+-- Sums and one product of bytes, which is small.
+-- Assumes nothing.
+use mathlib.Core.Path.{refl}
+use native.Mathlib.Omega.{arith}
+use denote.Ref.{now}
+use lib.ListN.{getD}
+use borrow.Author.Needs.{needs}
+use Rattle.label.specs.Body.{blockAt}
+use Rattle.label.proofs.Room.{place-small}
+use Rattle.label.proofs.body.place.Statement.{statement}
+use Rattle.label.proofs.body.place.Tie as tie
+
+pub place-spec : {M : Type 1} → statement M
+unfolding blockAt
+place-spec =
+    tie.close
+    (tie.spec
+    (λ c. search needs)
+    (λ c. omega (arith, c .shared-slice-known .given 11))
+    (λ c. omega (arith, c .shared-slice-known .given 11))
+    (λ c. search needs)
+    (λ c. omega (arith, c .shared-slice-known2 .given 12))
+    (λ c. omega (arith, c .shared-slice-known2 .given 12))
+    (λ c. omega (arith, c .before .shared-slice-known .given 11))
+    (λ c. omega (arith, place-small (c .before .before .args .n) (getD (c .before .before .args .b .now) 12 0) (omega arith) (omega (arith, c .shared-slice-known2 .given 12))))
+    (λ c. omega (arith, c .before .shared-slice-known .given 11, place-small (c .before .before .args .n) (getD (c .before .before .args .b .now) 12 0) (omega arith) (omega (arith, c .shared-slice-known2 .given 12))))
+    (λ c. refl))

@@ -1,0 +1,31 @@
+-- The arms of the definition.
+-- Assumes nothing.
+use mathlib.Core.Path.{_∙_}
+use borrow.Author.Needs.{needs}
+use Rattle.label.specs.Step.{act, called}
+use Rattle.label.proofs.step.Label.act.Statement.{statement}
+use Rattle.label.proofs.step.Label.act.Tie as tie
+
+pub act-spec : {M : Type 1} → statement M
+unfolding act called
+act-spec =
+    tie.close
+    (tie.spec
+    (λ c. search needs)
+    (λ c κs. search needs)
+    (λ c. search needs)
+    (λ c κs. search needs)
+    (λ c. search needs)
+    (λ c κs. search needs)
+    (λ c. search needs)
+    (λ c κs. search needs)
+    (λ c. search needs)
+    (λ c κs. search needs)
+    (λ c. search needs)
+    (λ c κs. search needs)
+    (λ c. c .silent .ensures ∙ rw (c .before .enum-told .given .1))
+    (λ c. c .field-off .ensures ∙ rw (c .before .enum-told2 .given .1))
+    (λ c. c .field-on .ensures ∙ rw (c .before .enum-told3 .given .1))
+    (λ c. c .awake-end .ensures ∙ rw (c .before .enum-told4 .given .1))
+    (λ c. c .awake-inventory .ensures ∙ rw (c .before .before .call .given .1))
+    (λ c. c .awake-asked .ensures ∙ rw (c .before .before .before .call2 .given .1)))

@@ -1,0 +1,19 @@
+-- One test: the slot sequence ends first, either way.
+-- Assumes nothing.
+use mathlib.Core.Path.{sym, _∙_}
+use borrow.Author.Needs.{needs}
+use Rattle.label.specs.Step.{asked}
+use Rattle.label.proofs.step.Label.asked.Statement.{statement}
+use Rattle.label.proofs.step.Label.asked.Tie as tie
+
+pub asked-spec : {M : Type 1} → statement M
+unfolding asked
+asked-spec =
+    tie.close
+    (tie.spec
+    (λ c κs. search needs)
+    (λ c κs. search needs)
+    (λ c κs. search needs)
+    (λ c. c .perform .ensures ∙ rw (c .before .before .before .ended .ensures, sym (c .before .before .is-meant .ensures) ∙ c .before .if1 .taken))
+    (λ c κs. search needs)
+    (λ c. c .passed .ensures ∙ rw (c .before .before .before .ended .ensures, sym (c .before .before .is-meant .ensures) ∙ c .before .if1 .left)))

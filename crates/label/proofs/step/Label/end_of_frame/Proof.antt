@@ -1,0 +1,23 @@
+-- The ladder of the definition.
+-- Assumes nothing.
+use mathlib.Core.Path.{_∙_}
+use borrow.Author.Needs.{needs}
+use borrow.Author.Tests.{eq-eqb, ne-eqb, lt-ltb, le-ltb}
+use Rattle.label.specs.Step.{endOfFrame}
+use Rattle.label.proofs.step.Label.end_of_frame.Statement.{statement}
+use Rattle.label.proofs.step.Label.end_of_frame.Tie as tie
+
+pub end-of-frame-spec : {M : Type 1} → statement M
+unfolding endOfFrame
+end-of-frame-spec =
+    tie.close
+    (tie.spec
+    (λ c. search needs)
+    (λ c κs. search needs)
+    (λ c κs. search needs)
+    (λ c. c .turn .ensures ∙ rw (c .before .in-slot .ensures, lt-ltb _ _ (c .before .before .before .if1 .taken)))
+    (λ c κs. search needs)
+    (λ c κs. search needs)
+    (λ c. c .silent .ensures ∙ rw (c .before .ended .ensures, le-ltb _ _ (c .before .before .before .before .if1 .left), eq-eqb _ _ (c .before .before .if2 .taken)))
+    (λ c κs. search needs)
+    (λ c. c .silent2 .ensures ∙ rw (le-ltb _ _ (c .before .before .before .if1 .left), ne-eqb _ _ (c .before .if2 .left))))

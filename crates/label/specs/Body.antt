@@ -1,0 +1,152 @@
+-- Document 01, "Rack file": the label body, 32 bytes, one lock byte a block, the blocks; its rules and the step on it. Assumes nothing.
+use mathlib.Core.Path.{_≡_}
+use mathlib.Core.Bool.{Bool, true, false, not, _&&_, _||_}
+use mathlib.Core.List.{List, [], _∷_}
+use Prim.Native.Nat.{ℕ, _+_, _-_, _*_, _^_, _≤_}
+use lib.Dec.{eqb, ltb, leb}
+use lib.ListN.{length, getD, set}
+use lib.Seq.{sets}
+use Rattle.frame.specs.Choose.{if_then_else_}
+use Rattle.frame.specs.Number.{num, bytesOf, part}
+use Rattle.frame.specs.Judge.{fine, bad, orElse, firstOf, byteVerdict}
+use Rattle.frame.specs.declared.verdict.Verdict.{Verdict}
+use Rattle.label.specs.declared.request.Order.{Order}
+use Rattle.label.specs.declared.request.Order.the-variants as o
+use Rattle.label.specs.declared.request.Call.{Call}
+use Rattle.label.specs.declared.request.Call.the-variants as k
+use Rattle.label.specs.declared.request.Request.{Request}
+use Rattle.label.specs.declared.step.Label.{Label}
+use Rattle.label.specs.declared.step.Answer.{Answer}
+use Rattle.label.specs.declared.step.Work.{Work}
+use Rattle.label.specs.declared.step.Work.the-variants as w
+use Rattle.label.specs.declared.step.Stepped.{Stepped}
+use Rattle.label.specs.Step.{act}
+
+-- ---- what stands where
+
+-- UID (0 to 7), DSFID (8), AFI (9), locks (10), blocks less 1 (11), block length less 1 (12), IC reference (13), state (14),
+-- slot (15), mask length (16), mask (17 to 24)
+unfoldable pub loadOf : List ℕ → Label
+loadOf b =
+    record {
+      uid = part 0 8 b;
+      dsfid = getD b 8 0;
+      afi = getD b 9 0;
+      locks = getD b 10 0;
+      blocks = getD b 11 0;
+      size = getD b 12 0;
+      ic = getD b 13 0;
+      state = getD b 14 0;
+      slot = getD b 15 0;
+      bits = getD b 16 0;
+      mask = num (part 17 8 b);
+    }
+
+-- what a step can change of them
+unfoldable pub storeOf : List ℕ → Label → List ℕ
+storeOf b l = sets (sets (sets b 8 (l .dsfid ∷ l .afi ∷ l .locks ∷ [])) 14 (l .state ∷ l .slot ∷ l .bits ∷ [])) 17 (bytesOf 8 (l .mask))
+
+-- blocks, and bytes in a block
+abbrev pub blocksOf : List ℕ → ℕ
+blocksOf b = getD b 11 0 + 1
+
+abbrev pub sizeOf : List ℕ → ℕ
+sizeOf b = getD b 12 0 + 1
+
+-- one lock byte for each block at 32; then the blocks
+abbrev pub lockAt : ℕ → ℕ
+lockAt n = 32 + n
+
+unfoldable pub blockAt : List ℕ → ℕ → ℕ
+blockAt b n = 32 + blocksOf b + n * sizeOf b
+
+-- the length that the numbers inside a body ask for
+unfoldable pub Sized : List ℕ → Type 0
+Sized b = length b ≡ 32 + blocksOf b + blocksOf b * sizeOf b
+
+-- ---- the rules, in the order of the bytes; a rule that joins fields is placed at the later one
+
+-- locks, blocks less 1 (the length must fit), block length less 1, state
+unfoldable pub headRules : List ℕ → Verdict
+headRules b =
+    if ltb 3 (getD b 10 0) then bad 13 10
+    else if not (eqb (length b) (32 + blocksOf b + blocksOf b * sizeOf b)) then bad 13 11
+    else if ltb 31 (getD b 12 0) then bad 13 12
+    else if ltb 3 (getD b 14 0) then bad 13 14
+    else fine
+
+-- mask length at most 60
+unfoldable pub bitsRules : List ℕ → Verdict
+bitsRules b = if ltb 60 (getD b 16 0) then bad 13 16 else fine
+
+-- slot 0 to 15, or 255 for none; a slot other than 255 needs state 1 or 3; with slot 255 the mask length is zero
+unfoldable pub slotRules : List ℕ → Verdict
+slotRules b =
+    if eqb (getD b 15 0) 255 then (if not (eqb (getD b 16 0) 0) then bad 13 16 else fine)
+    else if ltb 15 (getD b 15 0) then bad 13 15
+    else if not (eqb (getD b 14 0) 1) && not (eqb (getD b 14 0) 3) then bad 13 15
+    else bitsRules b
+
+-- byte j of the mask has a bit above the mask's length
+unfoldable pub over : List ℕ → ℕ → Bool
+over b j = leb (2 ^ (getD b 16 0 - 8 * j)) (getD b (17 + j) 0)
+
+unfoldable pub maskVerdict : List ℕ → ℕ → Verdict
+maskVerdict b j = if over b j then bad 13 (17 + j) else fine
+
+-- then zeros (25 to 31) and lock bytes, 0 or 1
+unfoldable pub labelRules : List ℕ → Verdict
+labelRules b =
+    orElse (headRules b)
+    (orElse (slotRules b)
+    (orElse (firstOf 8 (maskVerdict b))
+    (orElse (firstOf 7 (byteVerdict b 25 0))
+    (firstOf (blocksOf b) (byteVerdict b 32 1)))))
+
+-- ---- the step
+
+-- the lock byte of the block that an order writes or locks
+unfoldable pub lockOf : Order → List ℕ → ℕ
+lockOf o.Nothing b = 0
+lockOf (o.Fault e) b = 0
+lockOf o.Quiet b = 0
+lockOf (o.Read n lock) b = 0
+lockOf (o.Write n opt) b = getD b (lockAt n) 0
+lockOf (o.Lock n) b = getD b (lockAt n) 0
+lockOf o.Select b = 0
+lockOf o.Ready b = 0
+lockOf (o.WriteAfi v) b = 0
+lockOf o.LockAfi b = 0
+lockOf (o.WriteDsfid v) b = 0
+lockOf o.LockDsfid b = 0
+lockOf o.Info b = 0
+
+unfoldable pub named : Call → List ℕ → ℕ
+named k.Ignored b = 0
+named k.Off b = 0
+named k.On b = 0
+named k.EndOfFrame b = 0
+named (k.Inventory family sixteen m e) b = 0
+named (k.Ask to order) b = lockOf order b
+
+-- a block becomes the bytes sent, or its lock byte becomes 1
+unfoldable pub worked : Work → List ℕ → List ℕ → List ℕ
+worked w.Nothing bytes b = b
+worked (w.Write n) bytes b = sets b (blockAt b n) bytes
+worked (w.Lock n) bytes b = set b (lockAt n) 1
+
+-- a work that stays inside the body
+unfoldable pub Fits : Work → ℕ → List ℕ → Type 0
+Fits w.Nothing count b = Unit
+Fits (w.Write n) count b = (n ≤ getD b 11 0) × (count ≡ sizeOf b)
+Fits (w.Lock n) count b = n ≤ getD b 11 0
+
+-- old body, request and bytes sent alone decide
+unfoldable pub stepped : Request → ℕ → List ℕ → Stepped
+stepped r count b = act r count (named (r .call) b) (loadOf b)
+
+unfoldable pub nextLabel : Request → List ℕ → List ℕ → List ℕ
+nextLabel r bytes b = worked (stepped r (length bytes) b .work) bytes (storeOf b (stepped r (length bytes) b .next))
+
+unfoldable pub saidLabel : Request → ℕ → List ℕ → Answer
+saidLabel r count b = stepped r count b .answer

@@ -1,0 +1,91 @@
+// The frame of a label's answer.
+use crate::body::place;
+use crate::step::Answer;
+use frame::check_sum::seal;
+use frame::put::put_bytes;
+ghost use mathlib.Core.Path.{_≡_};
+ghost use mathlib.Core.List.{[], _∷_, _++_};
+ghost use Prim.Native.Nat.{_+_, _≤_};
+ghost use lib.ListN.{length, getD};
+ghost use lib.Seq.{sets};
+ghost use Rattle.frame.specs.Number.{part};
+ghost use Rattle.frame.specs.CheckSum.{framed};
+ghost use Rattle.label.specs.Body.{Sized};
+ghost use Rattle.label.specs.Answer.{speaks, Told, blockBytes, answerFrame};
+
+// Whether there is an answer.
+pub fn speaking(a: Answer) -> bool
+    ensures { λ r. ⌜ r ≡ speaks a ⌝ }
+{
+    match a {
+        Answer::Silent => false,
+        Answer::Error(_) => true,
+        Answer::Done => true,
+        Answer::Found => true,
+        Answer::Block(_, _) => true,
+        Answer::Info => true,
+    }
+}
+
+// 00, DSFID, UID.
+fn say_found(b: &[u8], out: &mut [u8]) -> usize
+    requires { ⌜ (32 ≤ length (now b)) × (64 ≤ length (now out)) ⌝ }
+    ensures { λ r. ⌜ (r ≡ 12) × (now (out .exit) ≡ sets (now (out .entry)) 0 (answerFrame Answer.Found (now (b .entry)))) ⌝ }
+{
+    out[0] = 0;
+    out[1] = b[8];
+    let n = put_bytes(out, 2, b, 8);
+    seal(out, n)
+}
+
+// 00, 0F, UID, DSFID, AFI, blocks less 1, length less 1, IC reference.
+fn say_info(b: &[u8], out: &mut [u8]) -> usize
+    requires { ⌜ (32 ≤ length (now b)) × (64 ≤ length (now out)) ⌝ }
+    ensures { λ r. ⌜ (r ≡ 17) × (now (out .exit) ≡ sets (now (out .entry)) 0 (answerFrame Answer.Info (now (b .entry)))) ⌝ }
+{
+    out[0] = 0;
+    out[1] = 0x0F;
+    let n = put_bytes(out, 2, b, 10);
+    let m = put_bytes(out, n, &b[11..14], 3);
+    seal(out, m)
+}
+
+// 00, the lock byte if it is asked for, the block.
+fn say_block(b: &[u8], n: u8, lock: bool, out: &mut [u8]) -> usize
+    requires { ⌜ Sized (now b) × ((getD (now b) 12 0 ≤ 31) × ((n ≤ getD (now b) 11 0) × (64 ≤ length (now out)))) ⌝ }
+    ensures { λ r. ⌜ (r ≡ length (answerFrame (Answer.Block n lock) (now (b .entry)))) × (now (out .exit) ≡ sets (now (out .entry)) 0 (answerFrame (Answer.Block n lock) (now (b .entry)))) ⌝ }
+{
+    let size = b[12] as usize + 1;
+    let at = place(b, n);
+    let end = at + size;
+    out[0] = 0;
+    if lock {
+        out[1] = b[32 + n as usize];
+        let m = put_bytes(out, 2, &b[at..end], size);
+        return seal(out, m);
+    }
+    let m = put_bytes(out, 1, &b[at..end], size);
+    seal(out, m)
+}
+
+// Writes the frame of an answer to the front of out, and returns its length.
+pub fn write_answer(a: Answer, b: &[u8], out: &mut [u8]) -> usize
+    requires { ⌜ Sized (now b) × ((getD (now b) 12 0 ≤ 31) × (Told a (now b) × (64 ≤ length (now out)))) ⌝ }
+    ensures { λ r. ⌜ (r ≡ length (answerFrame a (now (b .entry)))) × (now (out .exit) ≡ sets (now (out .entry)) 0 (answerFrame a (now (b .entry)))) ⌝ }
+{
+    match a {
+        Answer::Silent => 0,
+        Answer::Error(e) => {
+            out[0] = 1;
+            out[1] = e;
+            seal(out, 2)
+        }
+        Answer::Done => {
+            out[0] = 0;
+            seal(out, 1)
+        }
+        Answer::Found => say_found(b, out),
+        Answer::Block(n, lock) => say_block(b, n, lock, out),
+        Answer::Info => say_info(b, out),
+    }
+}

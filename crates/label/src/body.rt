@@ -1,0 +1,127 @@
+// A label's body: the label it holds, and a step in place.
+use crate::request::Call;
+use crate::request::Order;
+use crate::request::Request;
+use crate::step::Answer;
+use crate::step::Label;
+use crate::step::Work;
+use frame::number::byte_at;
+use frame::number::number_at;
+use frame::put::put_bytes;
+use frame::put::put_number;
+use frame::uid::uid_at;
+ghost use mathlib.Core.Path.{_≡_};
+ghost use Prim.Native.Nat.{_+_, _≤_};
+ghost use lib.ListN.{length, getD};
+ghost use Rattle.label.specs.Body.{Sized, Fits, loadOf, storeOf, blockAt, lockOf, named, worked, nextLabel, saidLabel};
+
+// The label that a body holds.
+pub fn load(b: &[u8]) -> Label
+    requires { ⌜ 32 ≤ length (now b) ⌝ }
+    ensures { λ r. ⌜ r ≡ loadOf (now (b .entry)) ⌝ }
+{
+    let uid = uid_at(b, 0);
+    let mask = number_at(b, 17, 8);
+    Label {
+        uid,
+        dsfid: b[8],
+        afi: b[9],
+        locks: b[10],
+        blocks: b[11],
+        size: b[12],
+        ic: b[13],
+        state: b[14],
+        slot: b[15],
+        bits: b[16],
+        mask,
+    }
+}
+
+// Puts what a step can change of a label into a body: DSFID, AFI, locks, state, slot and mask.
+pub fn store(b: &mut [u8], l: Label)
+    requires { ⌜ 32 ≤ length (now b) ⌝ }
+    ensures { λ _. ⌜ now (b .exit) ≡ storeOf (now (b .entry)) l ⌝ }
+{
+    b[8] = l.dsfid;
+    b[9] = l.afi;
+    b[10] = l.locks;
+    b[14] = l.state;
+    b[15] = l.slot;
+    b[16] = l.bits;
+    put_number(b, 17, l.mask, 8);
+}
+
+// Where block n stands.
+pub fn place(b: &[u8], n: u8) -> usize
+    requires { ⌜ 32 ≤ length (now b) ⌝ }
+    ensures { λ r. ⌜ r ≡ blockAt (now (b .entry)) n ⌝ }
+{
+    let blocks = b[11] as usize + 1;
+    let size = b[12] as usize + 1;
+    32 + blocks + n as usize * size
+}
+
+// The lock byte of the block that an order writes or locks.
+fn lock_of(b: &[u8], order: Order) -> u8
+    ensures { λ r. ⌜ r ≡ lockOf order (now (b .entry)) ⌝ }
+{
+    match order {
+        Order::Write(n, _) => byte_at(b, 32 + n as usize),
+        Order::Lock(n) => byte_at(b, 32 + n as usize),
+        _ => 0,
+    }
+}
+
+fn named_lock(b: &[u8], call: Call) -> u8
+    ensures { λ r. ⌜ r ≡ named call (now (b .entry)) ⌝ }
+{
+    let Call::Ask(_, order) = call else {
+        return 0;
+    };
+    lock_of(b, order)
+}
+
+// Writes the block, or the lock byte, that a step writes.
+fn do_work(b: &mut [u8], work: Work, data: &[u8])
+    requires { ⌜ Sized (now b) × Fits work (length (now «data»)) (now b) ⌝ }
+    ensures { λ _. ⌜ now (b .exit) ≡ worked work (now («data» .entry)) (now (b .entry)) ⌝ }
+{
+    match work {
+        Work::Nothing => {}
+        Work::Write(n) => {
+            let at = place(b, n);
+            put_bytes(b, at, data, data.len());
+        }
+        Work::Lock(n) => {
+            b[32 + n as usize] = 1;
+        }
+    }
+}
+
+// What a label answers to a request; its body stays.
+pub fn said(b: &[u8], r: Request, data: &[u8]) -> Answer
+    requires { ⌜ 32 ≤ length (now b) ⌝ }
+    ensures { λ a. ⌜ a ≡ saidLabel r (length (now («data» .entry))) (now (b .entry)) ⌝ }
+{
+    let l = load(b);
+    let call = r.call;
+    let k = named_lock(b, call);
+    let stepped = l.act(r, data.len(), k);
+    stepped.answer
+}
+
+// A label's step in place: its body becomes the next body, and what it answers comes back.
+pub fn step(b: &mut [u8], r: Request, data: &[u8]) -> Answer
+    requires { ⌜ Sized (now b) ⌝ }
+    ensures { λ a. ⌜ (a ≡ saidLabel r (length (now («data» .entry))) (now (b .entry))) × (now (b .exit) ≡ nextLabel r (now («data» .entry)) (now (b .entry))) ⌝ }
+{
+    let l = load(b);
+    let call = r.call;
+    let k = named_lock(b, call);
+    let stepped = l.act(r, data.len(), k);
+    let next = stepped.next;
+    store(b, next);
+    let work = stepped.work;
+    do_work(b, work, data);
+    stepped.answer
+}
