@@ -1,0 +1,11 @@
+-- The laws of the rack.
+pub mod Places
+pub mod Rebuilt
+pub mod Verdicts
+pub mod TagLaws
+pub mod Numbered
+pub mod Tags
+pub mod Pass
+pub mod Closed
+pub mod Outcomes
+pub mod Same

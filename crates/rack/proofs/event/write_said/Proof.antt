@@ -1,0 +1,38 @@
+-- By the two kinds of what is said.
+-- Assumes nothing.
+use borrow.Author.Needs.{needs}
+use Rattle.rack.specs.Facts.{Sayable}
+use Rattle.rack.specs.Event.{frameOf}
+use Rattle.rack.proofs.event.write_said.Statement.{statement}
+use Rattle.rack.proofs.event.write_said.Tie as tie
+
+write-answer-requires : tie.Need-write-answer-requires
+unfolding Sayable
+write-answer-requires c κs =
+    let p = rw (c .before .before .said .given .1) at (c .before .before .before .before .before .before .pre) in
+    (p .0 .0, (p .0 .1 .0, (p .0 .1 .1, p .1)))
+
+write-answer-requires-2 : tie.Need-write-answer-requires-2
+unfolding Sayable
+write-answer-requires-2 c κs = rw (c .before .before .said2 .given .1) at (c .before .before .before .before .before .before .pre)
+
+returns : tie.Need-returns
+unfolding frameOf
+returns c = rw (c .before .before .before .before .before .said .given .1) (c .before .before .write-answer .ensures)
+
+returns-2 : tie.Need-returns-2
+unfolding frameOf
+returns-2 c = rw (c .before .before .before .before .before .said2 .given .1) (c .before .before .write-answer2 .ensures)
+
+pub write-said-spec : {M : Type 1} → statement M
+write-said-spec =
+    tie.close
+    (tie.spec
+    (λ c. search needs)
+    write-answer-requires
+    (λ c. search needs)
+    write-answer-requires-2
+    (λ c. search needs)
+    returns
+    (λ c. search needs)
+    returns-2)

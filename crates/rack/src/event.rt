@@ -1,0 +1,166 @@
+// The event.
+use crate::file::count;
+use crate::file::judge;
+use crate::file::length_of;
+use crate::file::offset_of;
+use crate::tag::speaking;
+use crate::tag::step_tag;
+use chip::request::Order;
+use label::request::Request;
+ghost use mathlib.Core.Path.{_≡_};
+ghost use mathlib.Core.Bool.{true};
+ghost use Prim.Native.Nat.{_+_, _≤_, _<_};
+ghost use lib.ListN.{length};
+ghost use lib.Seq.{sets};
+ghost use Rattle.frame.specs.Number.{part, splice};
+ghost use Rattle.rack.specs.File.{countOf};
+ghost use Rattle.rack.specs.Facts.{RackFine, TagFine, Sayable, Tellable, bodyOf};
+ghost use Rattle.rack.specs.Event.{Signal, nextBody, saidBy, frameOf, nextRack, HeardOf, refusalOf, eventOf};
+
+// What a tag says.
+pub enum Said {
+    Label(label::step::Answer),
+    Chip(chip::step::Answer),
+}
+
+// What an event reports: the refusal's number or 0, how many tags answered, the length of an answer that was alone.
+pub struct Report {
+    pub number: u8,
+    pub answered: u8,
+    pub length: usize,
+}
+
+// What a pass over the tags heard: how many answered, and, of an answer that is alone, from whom.
+pub struct Heard {
+    pub answered: u8,
+    pub who: usize,
+    pub said: Said,
+}
+
+// The tag whose body lies at a place for a length takes its step: that part of the rack is lent on, and no other byte changes.
+fn step_at(
+    rack: &mut [u8],
+    at: usize,
+    len: usize,
+    kind: u8,
+    request: Request,
+    bytes: &[u8],
+    order: Order,
+    draw: u8,
+) -> Said
+    requires { ⌜ at + len ≤ length (now rack) ⌝ }
+    requires { ⌜ TagFine kind (part at len (now rack)) ⌝ }
+    ensures { λ r. ⌜ r ≡ saidBy kind (record { request = request; bytes = now (bytes .entry); order = order }) draw (part at len (now (rack .entry))) ⌝ }
+    ensures { λ r. ⌜ now (rack .exit) ≡ splice at len (nextBody kind (record { request = request; bytes = now (bytes .entry); order = order }) draw (part at len (now (rack .entry)))) (now (rack .entry)) ⌝ }
+{
+    let end = at + len;
+    step_tag(kind, &mut rack[at..end], request, bytes, order, draw)
+}
+
+// Every tag takes its step in turn: the request, the bytes and the order are decoded once. Draw i is entry i's.
+pub fn play(rack: &mut [u8], request: Request, bytes: &[u8], order: Order, draws: &[u8]) -> Heard
+    requires { ⌜ RackFine (now rack) ⌝ }
+    requires { ⌜ length (now draws) ≡ countOf (now rack) ⌝ }
+    ensures { λ r. ⌜ HeardOf (now (rack .entry)) (record { request = request; bytes = now (bytes .entry); order = order }) (now (draws .entry)) (countOf (now (rack .entry))) (r .answered) (r .who) (r .said) ⌝ }
+    ensures { λ r. ⌜ now (rack .exit) ≡ nextRack (now (rack .entry)) (record { request = request; bytes = now (bytes .entry); order = order }) (now (draws .entry)) ⌝ }
+{
+    let n = count(rack);
+    let mut answered: u8 = 0;
+    let mut who: usize = 0;
+    let mut said = Said::Chip(chip::step::Answer::Silent);
+    let mut at = 2 + 8 * n;
+    let mut i = 0;
+    while i < n {
+        let kind = rack[2 + 8 * i];
+        let len = length_of(rack, i);
+        let s = step_at(rack, at, len, kind, request, bytes, order, draws[i]);
+        if speaking(s) {
+            answered = answered + 1;
+            who = i;
+            said = s;
+        }
+        at = at + len;
+        i += 1;
+    }
+    Heard {
+        answered,
+        who,
+        said,
+    }
+}
+
+// The number of the refusal that applies, or 0.
+fn refuse(rack: &[u8], number: u8, draws: usize, room: usize) -> u8
+    ensures { λ r. ⌜ r ≡ refusalOf (now (rack .entry)) number draws room ⌝ }
+{
+    let v = judge(rack);
+    if v.number != 0 {
+        return 1;
+    }
+    if draws != count(rack) {
+        return 2;
+    }
+    if room < 64 {
+        return 3;
+    }
+    if number < 1 {
+        return 4;
+    }
+    if 5 < number {
+        return 4;
+    }
+    0
+}
+// Writes the frame of what a tag said, taken from its body, to the front of the answer buffer.
+fn write_said(said: Said, body: &[u8], answer: &mut [u8]) -> usize
+    requires { ⌜ Sayable said (now body) × (64 ≤ length (now answer)) ⌝ }
+    ensures { λ r. ⌜ (r ≡ length (frameOf said (now (body .entry)))) × (now (answer .exit) ≡ sets (now (answer .entry)) 0 (frameOf said (now (body .entry)))) ⌝ }
+{
+    match said {
+        Said::Label(a) => label::answer::write_answer(a, body, answer),
+        Said::Chip(a) => chip::answer::write_answer(a, body, answer),
+    }
+}
+
+// Tag i's frame opens the answer buffer.
+fn tell(rack: &[u8], i: usize, said: Said, answer: &mut [u8]) -> usize
+    requires { ⌜ Tellable (now rack) i said × (64 ≤ length (now answer)) ⌝ }
+    ensures { λ r. ⌜ (r ≡ length (frameOf said (bodyOf (now (rack .entry)) i))) × (now (answer .exit) ≡ sets (now (answer .entry)) 0 (frameOf said (bodyOf (now (rack .entry)) i))) ⌝ }
+{
+    let at = offset_of(rack, i);
+    let end = at + length_of(rack, i);
+    write_said(said, &rack[at..end], answer)
+}
+
+// Plays an event: 1 field off, 2 field on, 3 label frame, 4 bare end of frame, 5 chip frame.
+pub fn event(rack: &mut [u8], number: u8, frame: &[u8], draws: &[u8], answer: &mut [u8]) -> Report
+    ensures { λ r. ⌜ r ≡ eventOf (now (rack .entry)) number (now (frame .entry)) (now (draws .entry)) (now (answer .entry)) .report ⌝ }
+    ensures { λ r. ⌜ now (rack .exit) ≡ eventOf (now (rack .entry)) number (now (frame .entry)) (now (draws .entry)) (now (answer .entry)) .rack ⌝ }
+    ensures { λ r. ⌜ now (answer .exit) ≡ eventOf (now (rack .entry)) number (now (frame .entry)) (now (draws .entry)) (now (answer .entry)) .out ⌝ }
+{
+    let refusal = refuse(rack, number, draws.len(), answer.len());
+    if refusal != 0 {
+        return Report {
+            number: refusal,
+            answered: 0,
+            length: 0,
+        };
+    }
+    let request = label::request::hear(number, frame);
+    let order = chip::request::hear(number, frame);
+    let heard = play(rack, request, label::request::data_of(frame), order, draws);
+    if heard.answered != 1 {
+        return Report {
+            number: 0,
+            answered: heard.answered,
+            length: 0,
+        };
+    }
+    let said = heard.said;
+    let n = tell(rack, heard.who, said, answer);
+    Report {
+        number: 0,
+        answered: 1,
+        length: n,
+    }
+}

@@ -1,0 +1,55 @@
+// One tag of a rack, by its kind: its rules, its step and its answer's frame.
+use crate::event::Said;
+use chip::request::Order;
+use frame::verdict::Verdict;
+use label::request::Request;
+ghost use mathlib.Core.Path.{_≡_};
+ghost use mathlib.Core.Bool.{true};
+ghost use Prim.Native.Nat.{_+_, _≤_};
+ghost use lib.ListN.{length};
+ghost use lib.Seq.{sets};
+ghost use Rattle.rack.specs.File.{lengthFits, bodyRules};
+ghost use Rattle.rack.specs.Facts.{TagFine};
+ghost use Rattle.rack.specs.Event.{Signal, nextBody, saidBy, speaks, frameOf};
+
+// The rules of a body, by its kind.
+pub fn judge_tag(kind: u8, body: &[u8]) -> Verdict
+    requires { ⌜ lengthFits kind (length (now body)) ≡ true ⌝ }
+    ensures { λ r. ⌜ (r ≡ bodyRules kind (now (body .entry))) × (r .place ≤ 8480) ⌝ }
+{
+    if kind == 2 {
+        return chip::body::judge_chip(body);
+    }
+    label::judge::judge_label(body)
+}
+
+// A tag takes its step: only its body is lent, and so only its body changes.
+pub fn step_tag(
+    kind: u8,
+    body: &mut [u8],
+    request: Request,
+    bytes: &[u8],
+    order: Order,
+    draw: u8,
+) -> Said
+    requires { ⌜ TagFine kind (now body) ⌝ }
+    ensures { λ r. ⌜ r ≡ saidBy kind (record { request = request; bytes = now (bytes .entry); order = order }) draw (now (body .entry)) ⌝ }
+    ensures { λ r. ⌜ now (body .exit) ≡ nextBody kind (record { request = request; bytes = now (bytes .entry); order = order }) draw (now (body .entry)) ⌝ }
+{
+    if kind == 2 {
+        let a = chip::body::step(body, order, draw);
+        return Said::Chip(a);
+    }
+    let a = label::body::step(body, request, bytes);
+    Said::Label(a)
+}
+
+// Whether something is said.
+pub fn speaking(said: Said) -> bool
+    ensures { λ r. ⌜ r ≡ speaks said ⌝ }
+{
+    match said {
+        Said::Label(a) => label::answer::speaking(a),
+        Said::Chip(a) => chip::answer::speaking(a),
+    }
+}
