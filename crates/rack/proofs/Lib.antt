@@ -9,3 +9,4 @@ pub mod Pass
 pub mod Closed
 pub mod Outcomes
 pub mod Same
+pub mod Floor
