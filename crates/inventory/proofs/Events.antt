@@ -1,0 +1,133 @@
+-- An event of a walk sent to a well-formed rack is played, without its frame. Idea: no refusal applies, and the signal of an Inventory frame is the walk's own
+-- but for bytes that only a write reads. Assumes nothing.
+use mathlib.Core.Path.{_≡_, refl, ap, sym, _∙_}
+use mathlib.Core.Bool.{Bool, true, false, not, _&&_, _||_}
+use mathlib.Core.List.{List, []}
+use mathlib.Core.Logic.{_⊎_, inl, inr}
+use Prim.Native.Nat.{ℕ, _+_, _^_, _≤_, _<_}
+use native.Mathlib.Omega.{arith}
+use borrow.Author.Tests.{eq-eqb, eqb-true, leb-true}
+use lib.Dec.{eqb, ltb, leb}
+use lib.ListN.{length, getD, replicate, length-replicate}
+use Rattle.frame.specs.Choose.{if_then_else_, gather}
+use Rattle.frame.specs.Number.{Bytes}
+use Rattle.frame.specs.Judge.{fine, bad}
+use Rattle.frame.specs.declared.verdict.Verdict.{Verdict}
+use Rattle.frame.proofs.Bools.{and-both}
+use Rattle.frame.proofs.Numbers.{bytes-part}
+use Rattle.frame.proofs.Verdicts.{if-fine, not-none}
+use Rattle.label.specs.Request as labels
+use Rattle.label.specs.Request.{bare}
+use Rattle.label.specs.declared.request.Family.{Family}
+use Rattle.label.specs.declared.request.Family.the-variants.{Any, Only}
+use Rattle.label.specs.declared.request.Call.{Call}
+use Rattle.label.specs.declared.request.Call.the-variants.{Inventory, EndOfFrame}
+use Rattle.chip.specs.Request as chips
+use Rattle.rack.specs.File.{countOf, entryAt, kindAt, lengthAt, offsetAt, startOf, bodyAt, rebuilt, lengthFits, entryVerdict, bodyRules}
+use Rattle.rack.specs.Facts.{RackFine}
+use Rattle.rack.specs.Event.{Signal, Outcome, signalOf, next, answer, nextRack, answers, played, refusalOf, eventOf}
+use Rattle.inventory.specs.Walk.{request, sent}
+use Rattle.inventory.specs.Sent.{signal, draws}
+use Rattle.inventory.proofs.Lists.{gather-ext}
+use Rattle.rack.proofs.Rebuilt.{rebuilt-ext}
+use Rattle.inventory.proofs.Below.{back-any, back-only, rules-fine, fine-rack}
+use Rattle.inventory.proofs.Bodies.{TagOk, signalWith, duringBody, called, spoken, body-first, answer-first}
+
+-- a rack of bytes that keeps its rules
+pub record Fine (r : List ℕ) : Type 0 where
+  pub rack : RackFine r
+  pub bytes : Bytes r
+
+-- ---- its tags
+
+two-kinds : (k : ℕ) → not (eqb k 1 || eqb k 2) ≡ false → (k ≡ 1) ⊎ (k ≡ 2)
+two-kinds k h = go (eqb k 1) refl (eqb k 2) refl h
+  where
+    go : (p : Bool) → eqb k 1 ≡ p → (q : Bool) → eqb k 2 ≡ q → not (p || q) ≡ false → (k ≡ 1) ⊎ (k ≡ 2)
+    go true e q f z = inl (eqb-true k 1 e)
+    go false e true f z = inr (eqb-true k 2 f)
+    go false e false f z = absurd (let x : _≡_ {A = ℕ} 0 1 = cc in omega arith)
+
+pub kind-of : (r : List ℕ) → RackFine r → (i : ℕ) → i < countOf r → (kindAt r i ≡ 1) ⊎ (kindAt r i ≡ 2)
+unfolding entryVerdict
+kind-of r ok i h =
+    let last : Verdict = if not (eqb (offsetAt r i) (startOf r i)) then bad 12 (entryAt i + 4) else fine in
+    let small : Verdict = if ltb 65536 (startOf r i + lengthAt r i) then bad 12 (entryAt i + 2) else last in
+    let fits : Verdict = if not (lengthFits (kindAt r i) (lengthAt r i)) then bad 12 (entryAt i + 2) else small in
+    let none : Verdict = if not (eqb (getD r (entryAt i + 1) 0) 0) then bad 12 (entryAt i + 1) else fits in
+    let kind : Verdict = if not (eqb (kindAt r i) 1 || eqb (kindAt r i) 2) then bad 12 (entryAt i) else none in
+    let e = ap (λ (v : Verdict). v .number) (ok .entry i h .isFine) in
+    let k = if-fine (ltb (length r) (entryAt i + 8)) 10 (length r) kind (not-none 9) e .1 in
+    two-kinds (kindAt r i) (if-fine (not (eqb (kindAt r i) 1 || eqb (kindAt r i) 2)) 12 (entryAt i) none (not-none 11) k .0)
+
+fits-long : (k len : ℕ) → lengthFits k len ≡ true → 34 ≤ len
+unfolding lengthFits
+fits-long k len = go (eqb k 2)
+  where
+    go : (q : Bool) → (if q then eqb len 80 else leb 34 len && leb len 8480) ≡ true → 34 ≤ len
+    go true h = omega (arith, eqb-true len 80 h)
+    go false h = leb-true 34 len (and-both (leb 34 len) _ h .0)
+
+-- a body holds a label's first bytes
+pub tag-long : (r : List ℕ) → RackFine r → (i : ℕ) → i < countOf r → 34 ≤ lengthAt r i
+tag-long r ok i h = fits-long (kindAt r i) (lengthAt r i) (ok .entry i h .fits)
+
+pub tag : (r : List ℕ) → Fine r → (i : ℕ) → i < countOf r → TagOk (kindAt r i) (bodyAt r i)
+unfolding bodyRules
+tag r ok i h =
+    let small = bytes-part (startOf r i) (lengthAt r i) r (ok .bytes) in
+    let rules = ok .rack .body i h .rules in
+    record { kind = kind-of r (ok .rack) i h; small = small; label = λ q. rules-fine (bodyAt r i) small (rw q at rules); rules = rules }
+
+-- ---- no refusal applies
+
+accepted : (r : List ℕ) → RackFine r → (e : ℕ) → (leb 1 e && leb e 5) ≡ true → refusalOf r e (length (draws r)) (length {A = ℕ} (replicate 64 0)) ≡ 0
+unfolding refusalOf
+accepted r ok e h = rw (fine-rack r ok, length-replicate {A = ℕ} (countOf r) 0, eq-eqb (countOf r) (countOf r) refl, h) refl
+
+plays : (r : List ℕ) → RackFine r → (e : ℕ) → (leb 1 e && leb e 5) ≡ true → (f : List ℕ) → sent r e f ≡ played r (signalOf e f) (draws r) (replicate 64 0)
+unfolding sent eventOf
+plays r ok e h f = rw (accepted r ok e h) refl
+
+-- a call of the walk played
+abbrev pub told : List ℕ → Call → Outcome
+told r call = played r (signal call) (draws r) (replicate 64 0)
+
+pub ends : (r : List ℕ) → RackFine r → sent r 4 [] ≡ told r EndOfFrame
+unfolding labels.heard labels.dataOf chips.heard
+ends r ok = plays r ok 4 refl []
+
+-- ---- an Inventory
+
+reads : (family : Family) (m e : ℕ) → m ≤ 60 → e < 2 ^ m → labels.decode (request family m e) ≡ bare (Inventory family true m e)
+unfolding request
+reads Any m e short low = back-any m e short low
+reads (Only afi) m e short low = back-only afi m e short low
+
+signal-reads : (family : Family) (m e : ℕ) → m ≤ 60 → e < 2 ^ m
+    → signalOf 3 (request family m e) ≡ signalWith (labels.dataOf (request family m e)) (Inventory family true m e)
+unfolding labels.heard chips.heard
+signal-reads family m e short low = rw (reads family m e short low) refl
+
+played-same : (r : List ℕ) (x y : Signal) (ds out : List ℕ) → answers r x ds ≡ answers r y ds → nextRack r x ds ≡ nextRack r y ds
+    → played r x ds out ≡ played r y ds out
+played-same r x y ds out p q = rw (p, q) refl
+
+module _ (r : List ℕ) (ok : Fine r) (family : Family) (m e : ℕ) where
+  pub next-first : (bytes ds : List ℕ) → nextRack r (signalWith bytes (Inventory family true m e)) ds ≡ rebuilt r (λ i. duringBody family m e 0 (kindAt r i) (bodyAt r i))
+  unfolding nextRack next
+  next-first bytes ds = rebuilt-ext r _ _ (λ i h. body-first (tag r ok i h) family m e bytes (getD ds i 0))
+
+  pub answers-first : (bytes ds : List ℕ)
+      → answers r (signalWith bytes (Inventory family true m e)) ds ≡ gather (countOf r) (λ i. spoken (called family m e 0 (kindAt r i) (bodyAt r i)) (bodyAt r i))
+  unfolding answers answer
+  answers-first bytes ds = gather-ext (countOf r) _ _ (λ i h. answer-first (tag r ok i h) family m e bytes (getD ds i 0))
+
+  pub opens : m ≤ 60 → e < 2 ^ m → sent r 3 (request family m e) ≡ told r (Inventory family true m e)
+  opens short low =
+      let bs = labels.dataOf (request family m e) in
+      plays r (ok .rack) 3 refl (request family m e)
+      ∙ ap (λ (x : Signal). played r x (draws r) (replicate 64 0)) (signal-reads family m e short low)
+      ∙ played-same r (signalWith bs (Inventory family true m e)) (signal (Inventory family true m e)) (draws r) (replicate 64 0)
+      (answers-first bs (draws r) ∙ sym (answers-first [] (draws r)))
+      (next-first bs (draws r) ∙ sym (next-first [] (draws r)))

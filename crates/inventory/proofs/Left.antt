@@ -1,0 +1,131 @@
+-- The rack that a round leaves: well-formed, with the same UIDs, and left as it is by the next round; and UIDs have 64 bits. Idea: `cleared` is `rebuilt` of cleared bodies. Assumes nothing.
+use mathlib.Core.Path.{_≡_, ap, _∙_}
+use mathlib.Core.Bool.{Bool, true, false, _&&_, _||_}
+use mathlib.Core.List.{List, [], _∷_, _++_}
+use Prim.Native.Nat.{ℕ, zero, suc, _+_, _≤_, _<_}
+use native.Mathlib.Omega.{arith}
+use lib.Dec.{eqb}
+use lib.ListN.{length, getD}
+use Rattle.frame.specs.Choose.{if_then_else_, gather}
+use Rattle.frame.specs.Number.{num, part, Bytes}
+use Rattle.frame.proofs.Numbers.{bytes-take, bytes-append}
+use Rattle.label.specs.Step.{passes}
+use Rattle.label.specs.Slots.{on}
+use Rattle.label.specs.declared.request.Family.{Family}
+use Rattle.label.specs.declared.request.Family.the-variants.{Any}
+use Rattle.rack.specs.File.{countOf, entryAt, kindAt, lengthAt, bodyAt, contents, rebuilt}
+use Rattle.inventory.specs.Endings.{count}
+use Rattle.inventory.specs.Walk.{uidAt, uidsTo, uids, clearBody, cleared}
+use Rattle.inventory.proofs.Lists.{gather-ext, gather-few}
+use Rattle.inventory.proofs.Twice.{Distinct}
+use Rattle.inventory.proofs.Walks.{Below}
+use Rattle.rack.proofs.Rebuilt.{body-long, rebuilt-ext, rebuilt-count, rebuilt-kind, rebuilt-body, rebuilt-again}
+use Rattle.inventory.proofs.Below.{rebuilt-fine}
+use Rattle.inventory.proofs.Bodies.{clear-size, clear-twice, clear-uidAt, clear-ok}
+use Rattle.inventory.proofs.Events.{Fine, tag, tag-long}
+use Rattle.inventory.proofs.Uids.{uid-lt}
+
+-- ---- what is gathered
+
+bytes-gather : (n : ℕ) (g : ℕ → List ℕ) → ((i : ℕ) → i < n → Bytes (g i)) → Bytes (gather n g)
+unfolding gather
+bytes-gather zero g h j = omega arith
+bytes-gather (suc n) g h j = bytes-append (gather n g) (g n) (bytes-gather n g (λ i b. h i (omega arith))) (h n (omega arith)) j
+
+rebuilt-bytes : (r : List ℕ) (g : ℕ → List ℕ) → Bytes r → ((i : ℕ) → i < countOf r → Bytes (g i)) → Bytes (rebuilt r g)
+unfolding rebuilt
+rebuilt-bytes r g small h = bytes-append (contents r) (gather (countOf r) g) (bytes-take (entryAt (countOf r)) r small) (bytes-gather (countOf r) g h)
+
+below-append : (w : ℕ) (a b : List ℕ) → Below w a → Below w b → Below w (a ++ b)
+below-append w [] b p q = q
+below-append w (x ∷ a) b p q = (p .0, below-append w a b (p .1) q)
+
+below-gather : (w n : ℕ) (g : ℕ → List ℕ) → ((i : ℕ) → i < n → Below w (g i)) → Below w (gather n g)
+unfolding gather
+below-gather w zero g h = tt
+below-gather w (suc n) g h = below-append w (gather n g) (g n) (below-gather w n g (λ i b. h i (omega arith))) (h n (omega arith))
+
+pub count-append : (v : ℕ) (a b : List ℕ) → count v (a ++ b) ≡ count v a + count v b
+count-append v [] b = omega arith
+count-append v (x ∷ a) b = omega (arith, count-append v a b)
+
+count-gather : (v n : ℕ) (f g : ℕ → List ℕ) → ((i : ℕ) → count v (f i) ≤ count v (g i)) → count v (gather n f) ≤ count v (gather n g)
+unfolding gather
+count-gather v zero f g h = omega arith
+count-gather v (suc n) f g h = omega (arith, count-append v (gather n f) (f n), count-append v (gather n g) (g n), count-gather v n f g h, h n)
+
+uidAt-below : (family : Family) (k : ℕ) (b : List ℕ) → Bytes b → 8 ≤ length b → Below 64 (uidAt family k b)
+unfolding uidAt
+uidAt-below family k b small h = go (eqb k 1 && on family b)
+  where
+    go : (q : Bool) → Below 64 (if q then num (part 0 8 b) ∷ [] else [])
+    go true = (uid-lt b small h, tt)
+    go false = tt
+
+one-at-most : (family : Family) (k : ℕ) (b : List ℕ) → length (uidAt family k b) ≤ 1
+unfolding uidAt
+one-at-most family k b = go (eqb k 1 && on family b)
+  where
+    go : (q : Bool) → length (if q then num (part 0 8 b) ∷ [] else []) ≤ 1
+    go true = omega arith
+    go false = omega arith
+
+pub uids-few : (family : Family) (r : List ℕ) → length (uids family r) ≤ countOf r
+unfolding uidsTo
+uids-few family r = gather-few (countOf r) _ (λ i. one-at-most family (kindAt r i) (bodyAt r i))
+
+-- ---- the rack
+
+module _ (r : List ℕ) (fine : Fine r) where
+  abbrev bodies : ℕ → List ℕ
+  bodies i = clearBody (kindAt r i) (bodyAt r i)
+
+  sized : (i : ℕ) → i < countOf r → length (bodies i) ≡ lengthAt r i
+  sized i h = clear-size (tag r fine i h) ∙ body-long r (fine .rack .whole) i h
+
+  pub cleared-fine : Fine (cleared r)
+  unfolding cleared
+  cleared-fine = record {
+    rack = rebuilt-fine r bodies (fine .rack) (λ i h. (sized i h, clear-ok (tag r fine i h) .rules));
+    bytes = rebuilt-bytes r bodies (fine .bytes) (λ i h. clear-ok (tag r fine i h) .small);
+  }
+
+  pub cleared-uids : (family : Family) → uids family (cleared r) ≡ uids family r
+  unfolding uidsTo cleared
+  cleared-uids family =
+      ap (λ (n : ℕ). gather n (λ i. uidAt family (kindAt (rebuilt r bodies) i) (bodyAt (rebuilt r bodies) i))) (rebuilt-count r (fine .rack .whole) bodies sized)
+      ∙ gather-ext (countOf r) _ _ (λ i h.
+      rw (rebuilt-kind r (fine .rack .whole) bodies sized i h, rebuilt-body r (fine .rack .whole) bodies sized i h)
+      (clear-uidAt (tag r fine i h) family))
+
+  pub cleared-twice : cleared (cleared r) ≡ cleared r
+  unfolding cleared
+  cleared-twice =
+      rebuilt-again r (fine .rack .whole) bodies sized _
+      ∙ rebuilt-ext r _ _ (λ i h.
+      rw (rebuilt-kind r (fine .rack .whole) bodies sized i h, rebuilt-body r (fine .rack .whole) bodies sized i h)
+      (clear-twice (tag r fine i h)))
+
+  pub uids-below : (family : Family) → Below 64 (uids family r)
+  unfolding uidsTo
+  uids-below family =
+      below-gather 64 (countOf r) _ (λ i h.
+      uidAt-below family (kindAt r i) (bodyAt r i) (tag r fine i h .small) (omega (arith, body-long r (fine .rack .whole) i h, tag-long r (fine .rack) i h)))
+
+-- ---- a family's labels are some of all
+
+part-count : (family : Family) (k v : ℕ) (b : List ℕ) → count v (uidAt family k b) ≤ count v (uidAt Any k b)
+unfolding uidAt on passes
+part-count family k v b = go (eqb k 1) (eqb (getD b 14 0) 1 || eqb (getD b 14 0) 3) (passes family (getD b 9 0))
+  where
+    go : (p q t : Bool)
+        → count v (if p && (q && t) then num (part 0 8 b) ∷ [] else []) ≤ count v (if p && (q && true) then num (part 0 8 b) ∷ [] else [])
+    go true true true = omega arith
+    go true true false = omega arith
+    go true false t = omega arith
+    go false q t = omega arith
+
+pub some-distinct : (family : Family) (r : List ℕ) → Distinct (uids Any r) → Distinct (uids family r)
+unfolding uidsTo
+some-distinct family r d v =
+    omega (arith, d v, count-gather v (countOf r) (λ i. uidAt family (kindAt r i) (bodyAt r i)) (λ i. uidAt Any (kindAt r i) (bodyAt r i)) (λ i. part-count family (kindAt r i) v (bodyAt r i)))

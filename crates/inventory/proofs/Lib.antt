@@ -1,0 +1,22 @@
+-- The laws of the crate's definitions, and those that its functions cite.
+pub mod Sums
+pub mod Twice
+pub mod Trie
+pub mod Walks
+pub mod Lists
+pub mod Flat
+pub mod Below
+pub mod Bodies
+pub mod Kept
+pub mod Events
+pub mod Rounds
+pub mod Uids
+pub mod Left
+pub mod Bridge
+pub mod Same
+pub mod Promise
+pub mod Sends
+pub mod Turns
+pub mod Steps
+pub mod Calls
+pub mod Marked

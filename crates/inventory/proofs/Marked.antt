@@ -1,0 +1,125 @@
+-- Marked examples of document 01: (k) two UIDs apart only in the top four bits give 16 rounds, (l) no label gives 1; on UIDs, and on racks of bytes through the theorem.
+-- Idea: the right-hand side of `counts` computes, the walk itself never. Assumes nothing.
+use mathlib.Core.Path.{_≡_, refl, ap, sym, _∙_}
+use mathlib.Core.Bool.{Bool, true, _&&_}
+use mathlib.Core.List.{List, [], _∷_, _++_}
+use Prim.Native.Nat.{ℕ, zero, suc, _+_, _-_, _*_, _%_, _^_, _≤_}
+use native.Mathlib.Omega.{arith}
+use borrow.Author.Tests.{eq-eqb, ltb-true}
+use lib.Dec.{eqb, ltb, leb}
+use lib.ListN.{length, replicate}
+use lib.Pow.{mod-mod-pow}
+use Rattle.frame.specs.Choose.{gather}
+use Rattle.frame.specs.Judge.{firstOf, byteVerdict}
+use Rattle.frame.specs.Number.{Bytes}
+use Rattle.frame.proofs.Bools.{and-both}
+use Rattle.label.specs.Body.{headRules, slotRules, over, maskVerdict, labelRules}
+use Rattle.label.specs.Slots.{on}
+use Rattle.label.specs.Step.{passes}
+use Rattle.label.specs.declared.request.Family.{Family}
+use Rattle.label.specs.declared.request.Family.the-variants.{Any}
+use Rattle.rack.specs.File.{startOf, headVerdict, lengthFits, entryVerdict, bodyRules, moved, bodyVerdict, endVerdict, verdictOf}
+use Rattle.inventory.specs.Endings.{count, keepIf, keep, different, ending, sumTo, shared}
+use Rattle.inventory.specs.Walk.{uidAt, uidsTo, uids, anyOf, twins, refusalOf, walkOf}
+use Rattle.inventory.proofs.Sums.{sum-ext}
+use Rattle.inventory.proofs.Promise.{walk-carried, promise}
+
+-- ---- on UIDs
+
+abbrev pub roundsOf : List ℕ → ℕ
+roundsOf us = 1 + sumTo 15 (λ i. length (shared (4 * suc i) us))
+
+pub example-k : roundsOf (0xE000000000000011 ∷ 0xD000000000000011 ∷ []) ≡ 16
+example-k = refl
+
+pub example-l : roundsOf [] ≡ 1
+example-l = refl
+
+-- the three labels of the paper
+pub example-paper : roundsOf (0xE000000000000011 ∷ 0xE000000000000012 ∷ 0xE000000000000021 ∷ []) ≡ 2
+example-paper = refl
+
+-- (k) for any two
+one-shared : (m u v : ℕ) → ending m u ≡ ending m v → length (shared m (u ∷ v ∷ [])) ≡ 1
+one-shared m u v e = rw e (ap (λ (ys : List ℕ). length (keep many ys)) values ∙ ap (λ (n : ℕ). length (keepIf (leb 2 n) x [])) twice)
+  where
+    x : ℕ
+    x = ending m v
+
+    many : ℕ → Bool
+    many d = leb 2 (count d (x ∷ x ∷ []))
+
+    same : eqb x x ≡ true
+    same = eq-eqb x x refl
+
+    values : different (x ∷ x ∷ []) ≡ x ∷ []
+    values = rw same refl
+
+    twice : count x (x ∷ x ∷ []) ≡ 2
+    twice = rw same refl
+
+pub top-four : (u v : ℕ) → ending 60 u ≡ ending 60 v → roundsOf (u ∷ v ∷ []) ≡ 16
+top-four u v e = ap (λ (n : ℕ). 1 + n) (sum-ext 15 _ (λ i. 1) (λ i h. one-shared (4 * suc i) u v (shorter (4 * suc i) (omega arith))))
+  where
+    shorter : (m : ℕ) → m ≤ 60 → ending m u ≡ ending m v
+    shorter m h =
+        let z : (60 - m) + m ≡ 60 = omega arith in
+        sym (mod-mod-pow u (60 - m) m) ∙ ap (λ (n : ℕ). u % 2 ^ n % 2 ^ m) z ∙ ap (λ (n : ℕ). n % 2 ^ m) e
+        ∙ sym (ap (λ (n : ℕ). v % 2 ^ n % 2 ^ m) z) ∙ mod-mod-pow v (60 - m) m
+
+-- ---- on racks
+
+-- what a walk that is not refused counts
+counted : (r : List ℕ) → Bytes r → (family : Family) (list : List ℕ) → refusalOf r (length list) ≡ 0 → walkOf r family list .report .rounds ≡ roundsOf (uids family r)
+counted r small family list h = promise r small family list (ap (λ x. x .report .number) (walk-carried r family list h)) .counts
+
+pub walk-k : (r : List ℕ) → Bytes r → (family : Family) (list : List ℕ) → refusalOf r (length list) ≡ 0 → (u v : ℕ) → uids family r ≡ u ∷ v ∷ [] → ending 60 u ≡ ending 60 v
+    → walkOf r family list .report .rounds ≡ 16
+walk-k r small family list h u v e t = counted r small family list h ∙ ap roundsOf e ∙ top-four u v t
+
+pub walk-l : (r : List ℕ) → Bytes r → (family : Family) (list : List ℕ) → refusalOf r (length list) ≡ 0 → uids family r ≡ [] → walkOf r family list .report .rounds ≡ 1
+walk-l r small family list h e = counted r small family list h ∙ ap roundsOf e
+
+-- a rack of two such labels, each with one block of one byte, and a rack of no tag
+abbrev label : ℕ → List ℕ
+label top = 0x11 ∷ 0 ∷ 0 ∷ 0 ∷ 0 ∷ 0 ∷ 0 ∷ top ∷ 0 ∷ 0 ∷ 0 ∷ 0 ∷ 0 ∷ 0 ∷ 1 ∷ 255 ∷ replicate 18 0
+
+abbrev entry : ℕ → List ℕ
+entry at = 1 ∷ 0 ∷ 34 ∷ 0 ∷ at ∷ 0 ∷ 0 ∷ 0 ∷ []
+
+abbrev rack-k : List ℕ
+rack-k = (1 ∷ 2 ∷ []) ++ entry 18 ++ entry 52 ++ label 0xE0 ++ label 0xD0
+
+pub uids-k : uids Any rack-k ≡ 0xE000000000000011 ∷ 0xD000000000000011 ∷ []
+unfolding uidsTo uidAt on passes gather startOf
+uids-k = refl
+
+pub accepts-k : refusalOf rack-k 16 ≡ 0
+unfolding refusalOf verdictOf headVerdict entryVerdict lengthFits bodyVerdict bodyRules moved endVerdict labelRules headRules slotRules maskVerdict over byteVerdict firstOf twins anyOf uidsTo uidAt on passes gather startOf
+accepts-k = refl
+
+abbrev rack-l : List ℕ
+rack-l = 1 ∷ 0 ∷ []
+
+pub uids-l : uids Any rack-l ≡ []
+unfolding uidsTo gather
+uids-l = refl
+
+pub accepts-l : refusalOf rack-l 0 ≡ 0
+unfolding refusalOf verdictOf headVerdict endVerdict firstOf twins anyOf startOf
+accepts-l = refl
+
+abbrev small : List ℕ → Bool
+small [] = true
+small (b ∷ s) = ltb b 256 && small s
+
+bytes-of : (s : List ℕ) → small s ≡ true → Bytes s
+bytes-of [] e i = omega arith
+bytes-of (b ∷ s) e zero = ltb-true b 256 (and-both (ltb b 256) (small s) e .0)
+bytes-of (b ∷ s) e (suc i) = bytes-of s (and-both (ltb b 256) (small s) e .1) i
+
+pub walked-k : (list : List ℕ) → length list ≡ 16 → walkOf rack-k Any list .report .rounds ≡ 16
+walked-k list h = walk-k rack-k (bytes-of rack-k refl) Any list (ap (refusalOf rack-k) h ∙ accepts-k) 0xE000000000000011 0xD000000000000011 uids-k refl
+
+pub walked-l : (list : List ℕ) → length list ≡ 0 → walkOf rack-l Any list .report .rounds ≡ 1
+walked-l list h = walk-l rack-l (bytes-of rack-l refl) Any list (ap (refusalOf rack-l) h ∙ accepts-l) uids-l

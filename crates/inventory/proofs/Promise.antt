@@ -1,0 +1,134 @@
+-- Demand 3 for a rack of bytes: what the walk lists, how many rounds it takes, and the rack it leaves; and that the statement leaves one reply. Idea: `told` at the empty mask,
+-- then the counting theorem at four bits a round. Assumes nothing.
+use mathlib.Core.Path.{_≡_, refl, ap, sym, _∙_}
+use mathlib.Core.Bool.{Bool, true, false, not}
+use mathlib.Core.List.{List}
+use Prim.Native.Nat.{ℕ, suc, _+_, _*_, _/_, _≤_}
+use native.Mathlib.Omega.{arith}
+use borrow.Author.Tests.{eqb-true, ltb-false, ne-eqb}
+use lib.Dec.{eqb, ltb}
+use lib.ListN.{length}
+use lib.Seq.{sets}
+use Rattle.frame.specs.Choose.{if_then_else_}
+use Rattle.frame.specs.Number.{Bytes}
+use Rattle.label.specs.declared.request.Family.{Family}
+use Rattle.label.specs.declared.request.Family.the-variants.{Any}
+use Rattle.rack.specs.File.{countOf, verdictOf}
+use Rattle.rack.specs.Facts.{RackFine}
+use Rattle.inventory.specs.declared.walk.Walked.{Walked}
+use Rattle.inventory.specs.Endings.{count, sumTo, shared}
+use Rattle.inventory.specs.Walk.{Trip, explore, depth, uids, twins, refusalOf, refused, carried, walkOf, cleared}
+use Rattle.inventory.specs.Promise.{flat, Promise}
+use Rattle.inventory.proofs.Twice.{Distinct}
+use Rattle.inventory.proofs.Walks.{listing, lists-each, as-long, rounds-16, rounds-16-bound}
+use Rattle.inventory.proofs.Flat.{flat-length}
+use Rattle.inventory.proofs.Below.{rack-fine}
+use Rattle.inventory.proofs.Events.{Fine}
+use Rattle.inventory.proofs.Left.{uids-below, some-distinct}
+use Rattle.inventory.proofs.Bridge.{told, start-good, cleared-good}
+use Rattle.inventory.proofs.Same.{apart}
+
+-- ---- the walk of a well-formed rack without twins
+
+pub record Done (family : Family) (r : List ℕ) (t : Trip) : Type 0 where
+  pub listed : List ℕ
+  pub bytes : t .found ≡ flat listed
+  pub lists : (v : ℕ) → count v listed ≡ count v (uids family r)
+  pub size : length (t .found) ≡ 8 * length (uids family r)
+  pub counts : t .rounds ≡ 1 + sumTo 15 (λ i. length (shared (4 * suc i) (uids family r)))
+  pub bound : t .rounds ≤ 1 + 15 * (length (uids family r) / 2)
+  pub leaves : t .rack ≡ cleared r
+
+pub done : (r : List ℕ) → Fine r → (family : Family) → Distinct (uids Any r) → Done family r (explore (depth 0) r family 0 0)
+unfolding depth
+done r fine family alone =
+    let us = uids family r in
+    let d = some-distinct family r alone in
+    let b = uids-below r fine family in
+    let t = told family us (cleared r) (cleared-good family r fine) 15 0 r 0 (start-good family r fine) (omega arith) refl in
+    record {
+      listed = listing 4 15 0 0 us;
+      bytes = t .found;
+      lists = λ v. lists-each us b d v;
+      size = ap length (t .found) ∙ flat-length (listing 4 15 0 0 us) ∙ ap (λ (n : ℕ). 8 * n) (as-long us b d);
+      counts = t .rounds ∙ rounds-16 us;
+      bound = rw (t .rounds) (rounds-16-bound us);
+      leaves = t .rack;
+    }
+
+-- ---- where no refusal applies
+
+pub record Accepted (r : List ℕ) (room : ℕ) : Type 0 where
+  pub fine : RackFine r
+  pub roomy : 8 * countOf r ≤ room
+  pub single : twins r ≡ false
+
+pub accepted : (r : List ℕ) (room : ℕ) → refusalOf r room ≡ 0 → Accepted r room
+unfolding refusalOf
+accepted r room = go (eqb (verdictOf r .number) 0) refl (ltb room (8 * countOf r)) refl (twins r) refl
+  where
+    go : (p : Bool) → eqb (verdictOf r .number) 0 ≡ p → (q : Bool) → ltb room (8 * countOf r) ≡ q → (t : Bool) → twins r ≡ t
+        → _≡_ {A = ℕ} (if not p then 1 else if q then 5 else if t then 6 else 0) 0 → Accepted r room
+    go true e false f false g z = record { fine = rack-fine r (eqb-true (verdictOf r .number) 0 e); roomy = ltb-false room (8 * countOf r) f; single = g }
+    go true e false f true g z = absurd (omega (arith, z))
+    go true e true f t g z = absurd (omega (arith, z))
+    go false e q f t g z = absurd (omega (arith, z))
+
+walk-number : (r : List ℕ) (family : Family) (list : List ℕ) → walkOf r family list .report .number ≡ 0 → refusalOf r (length list) ≡ 0
+unfolding walkOf
+walk-number r family list = go (eqb (refusalOf r (length list)) 0) refl
+  where
+    go : (q : Bool) → eqb (refusalOf r (length list)) 0 ≡ q
+        → (if q then carried (explore (depth 0) r family 0 0) list else refused (refusalOf r (length list)) r list) .report .number ≡ 0 → refusalOf r (length list) ≡ 0
+    go true e z = eqb-true (refusalOf r (length list)) 0 e
+    go false e z = z
+
+pub walk-carried : (r : List ℕ) (family : Family) (list : List ℕ) → refusalOf r (length list) ≡ 0 → walkOf r family list ≡ carried (explore (depth 0) r family 0 0) list
+unfolding walkOf
+walk-carried r family list h = rw h refl
+
+pub walk-refused : (r : List ℕ) (family : Family) (list : List ℕ) → (refusalOf r (length list) ≡ 0 → ⊥) → walkOf r family list ≡ refused (refusalOf r (length list)) r list
+unfolding walkOf
+walk-refused r family list h = rw (ne-eqb (refusalOf r (length list)) 0 h) refl
+
+-- Demand 3: what a walk that is not refused promises.
+pub promise : (r : List ℕ) → Bytes r → (family : Family) (list : List ℕ) → walkOf r family list .report .number ≡ 0
+    → Promise family r (walkOf r family list .rack) list (walkOf r family list .list) (walkOf r family list .report)
+promise r small family list h =
+    let n = walk-number r family list h in
+    let a = accepted r (length list) n in
+    let p = done r (record { rack = a .fine; bytes = small }) family (apart r (a .single)) in
+    rw (walk-carried r family list n)
+    (record {
+      listed = p .listed;
+      lists = p .lists;
+      written = ap (sets list 0) (p .bytes);
+      labels = omega (arith, p .size);
+      counts = p .counts;
+      bound = p .bound;
+      leaves = p .leaves;
+    })
+
+-- ---- the reply of the call
+
+pub record Reply (family : Family) (r r₁ list list₁ : List ℕ) (w : Walked) : Type 0 where
+  pub report : w ≡ walkOf r family list .report
+  pub rack : r₁ ≡ walkOf r family list .rack
+  pub written : list₁ ≡ walkOf r family list .list
+  pub promised : w .number ≡ 0 → Promise family r r₁ list list₁ w
+
+pub replies : (family : Family) (r r₁ list list₁ : List ℕ) (w : Walked) → Bytes r
+    → w ≡ walkOf r family list .report → r₁ ≡ walkOf r family list .rack → list₁ ≡ walkOf r family list .list → Reply family r r₁ list list₁ w
+replies family r r₁ list list₁ w small p q l =
+    record { report = p; rack = q; written = l; promised = λ z. rw (p, q, l) (promise r small family list (rw p at z)) }
+
+-- Two replies that meet the statement are equal.
+pub only-one : (family : Family) (r r₁ r₂ list l₁ l₂ : List ℕ) (v w : Walked) → Reply family r r₁ list l₁ v → Reply family r r₂ list l₂ w
+    → (v ≡ w) × ((r₁ ≡ r₂) × (l₁ ≡ l₂))
+only-one family r r₁ r₂ list l₁ l₂ v w a b = (a .report ∙ sym (b .report), (a .rack ∙ sym (b .rack), a .written ∙ sym (b .written)))
+
+-- Demand 3 by itself leaves open only the order of the list.
+pub but-order : (family : Family) (r r₁ r₂ list l₁ l₂ : List ℕ) (v w : Walked) (a : Promise family r r₁ list l₁ v) (b : Promise family r r₂ list l₂ w)
+    → (v .labels ≡ w .labels) × ((v .rounds ≡ w .rounds) × ((r₁ ≡ r₂) × ((u : ℕ) → count u (a .listed) ≡ count u (b .listed))))
+but-order family r r₁ r₂ list l₁ l₂ v w a b =
+    (a .labels ∙ sym (b .labels), (a .counts ∙ sym (b .counts), (a .leaves ∙ sym (b .leaves), λ u. a .lists u ∙ sym (b .lists u))))

@@ -1,0 +1,145 @@
+-- Document 01, "Walk": the events sent to the rack in turn, and what the walk makes of their replies. Assumes nothing.
+use mathlib.Core.Bool.{Bool, true, false, not, _&&_, _||_}
+use mathlib.Core.List.{List, [], _∷_, _++_}
+use Prim.Native.Nat.{ℕ, zero, suc, _+_, _-_, _*_, _/_, _^_}
+use lib.Dec.{eqb, ltb, leb}
+use lib.ListN.{length, getD, replicate}
+use lib.Seq.{sets}
+use Rattle.frame.specs.Choose.{if_then_else_, gather}
+use Rattle.frame.specs.Number.{num, bytesOf, part}
+use Rattle.frame.specs.CheckSum.{framed}
+use Rattle.frame.specs.Ending.{longer, bytesFor}
+use Rattle.label.specs.Slots.{on, clear}
+use Rattle.label.specs.declared.request.Family.{Family}
+use Rattle.label.specs.declared.request.Family.the-variants.{Any, Only}
+use Rattle.rack.specs.File.{countOf, kindAt, bodyAt, rebuilt, verdictOf}
+use Rattle.rack.specs.Event.{Outcome, eventOf}
+use Rattle.inventory.specs.declared.walk.Walked.{Walked}
+use Rattle.inventory.specs.Endings.{count}
+
+-- ---- a round is one sixteen-slot Inventory and sixteen ends of frame
+
+-- its frame: flags (bit 1, Inventory, AFI), command 01, AFI, mask length, mask in as few bytes as hold it
+unfoldable pub request : Family → ℕ → ℕ → List ℕ
+request Any m e = framed (6 ∷ 1 ∷ m ∷ bytesOf (bytesFor m) e)
+request (Only afi) m e = framed (22 ∷ 1 ∷ afi ∷ m ∷ bytesOf (bytesFor m) e)
+
+-- an event sent to a rack, with a draw for each tag and an answer buffer of 64 bytes; labels use no draw
+unfoldable pub sent : List ℕ → ℕ → List ℕ → Outcome
+sent r e f = eventOf r e f (replicate (countOf r) 0) (replicate 64 0)
+
+-- what came back in slot s: the Inventory asks slot 0, each end of frame the next
+unfoldable pub slotOutcome : List ℕ → Family → ℕ → ℕ → ℕ → Outcome
+slotOutcome r family m e zero = sent r 3 (request family m e)
+slotOutcome r family m e (suc s) = sent (slotOutcome r family m e s .rack) 4 []
+
+-- how many answered in it, and the UID of one that was alone: bytes 2 to 9 of its answer
+abbrev pub hits : Outcome → ℕ
+hits o = o .report .answered
+
+abbrev pub alone : Outcome → List ℕ
+alone o = if eqb (hits o) 1 then part 2 8 (o .out) else []
+
+pub record Hearing : Type 0 where
+  pub rack : List ℕ
+  pub found : List ℕ
+  pub hits : List ℕ
+
+-- labels heard alone are listed in slot order
+unfoldable pub round : List ℕ → Family → ℕ → ℕ → Hearing
+round r family m e =
+    record {
+      rack = slotOutcome r family m e 16 .rack;
+      found = gather 16 (λ s. alone (slotOutcome r family m e s));
+      hits = gather 16 (λ s. hits (slotOutcome r family m e s) ∷ []);
+    }
+
+-- ---- then, for each slot with a collision, in slot order, a round with its mask four bits longer, carried through before the next slot
+
+pub record Trip : Type 0 where
+  pub rack : List ℕ
+  pub found : List ℕ
+  pub rounds : ℕ
+
+unfoldable pub join : Trip → Trip → Trip
+join a b = record { rack = b .rack; found = a .found ++ b .found; rounds = a .rounds + b .rounds }
+
+unfoldable pub start : Hearing → Trip
+start h = record { rack = h .rack; found = h .found; rounds = 1 }
+
+module _ (sub : List ℕ → ℕ → Trip) (heard : List ℕ) (m e : ℕ) where
+  unfoldable pub turn : Bool → ℕ → Trip → Trip
+  turn true s t = join t (sub (t .rack) (longer e m s))
+  turn false s t = t
+
+  -- the collided slots below s carried through
+  unfoldable pub upto : ℕ → List ℕ → Trip
+  upto zero rack = record { rack = rack; found = []; rounds = 0 }
+  upto (suc s) rack = turn (ltb 1 (getD heard s 0)) s (upto s rack)
+
+-- rounds that a mask of m bits may yet go down: past 60 bits there is none
+unfoldable pub depth : ℕ → ℕ
+depth m = (64 - m) / 4
+
+unfoldable pub explore : ℕ → List ℕ → Family → ℕ → ℕ → Trip
+explore zero rack family m e = record { rack = rack; found = []; rounds = 0 }
+explore (suc d) rack family m e =
+    let h = round rack family m e in
+    join (start h) (upto (λ r longerMask. explore d r family (m + 4) longerMask) (h .hits) m e 16 (h .rack))
+
+-- ---- the call
+
+-- the UIDs of the labels in state 1 or 3 that the family filter lets answer, in the order of the rack
+unfoldable pub uidAt : Family → ℕ → List ℕ → List ℕ
+uidAt family kind b = if eqb kind 1 && on family b then num (part 0 8 b) ∷ [] else []
+
+unfoldable pub uidsTo : Family → List ℕ → ℕ → List ℕ
+uidsTo family r n = gather n (λ i. uidAt family (kindAt r i) (bodyAt r i))
+
+abbrev pub uids : Family → List ℕ → List ℕ
+uids family r = uidsTo family r (countOf r)
+
+-- does one of f 0, f 1, .., f (n - 1) hold?
+unfoldable pub anyOf : ℕ → (ℕ → Bool) → Bool
+anyOf zero f = false
+anyOf (suc n) f = anyOf n f || f n
+
+abbrev pub among : List ℕ → List ℕ → Bool
+among [] seen = false
+among (u ∷ us) seen = leb 1 (count u seen)
+
+-- two labels in state 1 or 3 have one UID: one of the tags has the UID of one before it
+unfoldable pub twins : List ℕ → Bool
+twins r = anyOf (countOf r) (λ i. among (uidAt Any (kindAt r i) (bodyAt r i)) (uidsTo Any r i))
+
+-- the lowest number that applies, for so much room in the list; 0: none
+unfoldable pub refusalOf : List ℕ → ℕ → ℕ
+refusalOf r room =
+    if not (eqb (verdictOf r .number) 0) then 1
+    else if ltb room (8 * countOf r) then 5
+    else if twins r then 6
+    else 0
+
+pub record Result : Type 0 where
+  pub report : Walked
+  pub rack : List ℕ
+  pub list : List ℕ
+
+abbrev pub refused : ℕ → List ℕ → List ℕ → Result
+refused n r list = record { report = record { number = n; labels = 0; rounds = 0 }; rack = r; list = list }
+
+-- the list holds 8 bytes a label, and the result says how many labels it holds
+abbrev pub carried : Trip → List ℕ → Result
+carried t list = record { report = record { number = 0; labels = length (t .found) / 8; rounds = t .rounds }; rack = t .rack; list = sets list 0 (t .found) }
+
+unfoldable pub walkOf : List ℕ → Family → List ℕ → Result
+walkOf r family list =
+    if eqb (refusalOf r (length list)) 0 then carried (explore (depth 0) r family 0 0) list
+    else refused (refusalOf r (length list)) r list
+
+-- every label's slot, mask length and mask cleared, and nothing else changed
+unfoldable pub clearBody : ℕ → List ℕ → List ℕ
+clearBody kind b = if eqb kind 1 then clear b else b
+
+unfoldable pub cleared : List ℕ → List ℕ
+cleared r = rebuilt r (λ i. clearBody (kindAt r i) (bodyAt r i))

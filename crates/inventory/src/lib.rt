@@ -1,0 +1,4 @@
+// The inventory walk.
+pub mod round;
+pub mod twins;
+pub mod walk;
