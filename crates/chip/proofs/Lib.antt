@@ -7,4 +7,3 @@ pub mod Bodies
 pub mod Keeps
 pub mod Answers
 pub mod Floor
-pub mod Marked

@@ -1,7 +1,7 @@
--- Marked examples of document 01: (k) two UIDs apart only in the top four bits give 16 rounds, (l) no label gives 1; on UIDs, and on racks of bytes through the theorem.
--- Idea: the right-hand side of `counts` computes, the walk itself never. Assumes nothing.
+-- The marked examples of document 01, (a) to (l), as one statement over one list: `marked`. All but the last two are computed; (k) and (l)
+-- are walks of racks of bytes, whose rounds the theorem counts from the UIDs: that count computes, the walk itself never. Assumes nothing.
 use mathlib.Core.Path.{_≡_, refl, ap, sym, _∙_}
-use mathlib.Core.Bool.{Bool, true, _&&_}
+use mathlib.Core.Bool.{Bool, true, false, _&&_}
 use mathlib.Core.List.{List, [], _∷_, _++_}
 use Prim.Native.Nat.{ℕ, zero, suc, _+_, _-_, _*_, _%_, _^_, _≤_}
 use native.Mathlib.Omega.{arith}
@@ -12,6 +12,9 @@ use lib.Pow.{mod-mod-pow}
 use Rattle.frame.specs.Choose.{gather}
 use Rattle.frame.specs.Judge.{firstOf, byteVerdict}
 use Rattle.frame.specs.Number.{Bytes}
+use Rattle.frame.specs.CheckSum.{crcBit, crcBits, crcByte, crcRun, crcWith, crcOf}
+use Rattle.frame.specs.Ending.{endsIn, endsInSlot}
+use Rattle.chip.specs.Write.{written, countDown, lockDown, reloads, locked}
 use Rattle.frame.proofs.Bools.{and-both}
 use Rattle.label.specs.Body.{headRules, slotRules, over, maskVerdict, labelRules}
 use Rattle.label.specs.Slots.{on}
@@ -28,12 +31,6 @@ use Rattle.inventory.proofs.Promise.{walk-carried, promise}
 
 abbrev pub roundsOf : List ℕ → ℕ
 roundsOf us = 1 + sumTo 15 (λ i. length (shared (4 * suc i) us))
-
-pub example-k : roundsOf (0xE000000000000011 ∷ 0xD000000000000011 ∷ []) ≡ 16
-example-k = refl
-
-pub example-l : roundsOf [] ≡ 1
-example-l = refl
 
 -- the three labels of the paper
 pub example-paper : roundsOf (0xE000000000000011 ∷ 0xE000000000000012 ∷ 0xE000000000000021 ∷ []) ≡ 2
@@ -123,3 +120,49 @@ walked-k list h = walk-k rack-k (bytes-of rack-k refl) Any list (ap (refusalOf r
 
 pub walked-l : (list : List ℕ) → length list ≡ 0 → walkOf rack-l Any list .report .rounds ≡ 1
 walked-l list h = walk-l rack-l (bytes-of rack-l refl) Any list (ap (refusalOf rack-l) h ∙ accepts-l) uids-l
+
+-- ---- the list
+
+pub record Example : Type 0 where
+  pub gives : ℕ
+  pub wanted : ℕ
+
+abbrev example : ℕ → ℕ → Example
+example x y = record { gives = x; wanted = y }
+
+abbrev yes : Bool → ℕ
+yes true = 1
+yes false = 0
+
+-- a UID that ends in 2A
+abbrev ends2A : List ℕ
+ends2A = 0x2A ∷ 0 ∷ 0 ∷ 0 ∷ 0 ∷ 0 ∷ 0 ∷ 0xE0 ∷ []
+
+-- (a) CRC of no bytes. (b) mask A of 4 bits: slot 2 answers, slot 1 not. (c) and with reload (d). Counter 5: w 5 (e), 4 (f), 6 (g).
+-- (h) Block 6 from 00200000 to 001FFFFF. (i) Then to 001FFFFE. (j) Block 255, and block 7 locked. (k) 16 rounds. (l) 1 round.
+abbrev pub examples : List Example
+examples =
+    example (crcOf []) 0x0000
+    ∷ example (yes (endsInSlot ends2A 0xA 4 2)) 1
+    ∷ example (yes (endsInSlot ends2A 0xA 4 1)) 0
+    ∷ example (written 0 0xFFFF00FF 0xF0F0F0F0 0) 0xF0F000F0
+    ∷ example (written 0 0xFFFF00FF 0xF0F0F0F0 1) 0xF0F0F0F0
+    ∷ example (written 5 5 5 0) 5
+    ∷ example (written 5 5 4 0) 4
+    ∷ example (written 5 5 6 0) 5
+    ∷ example (yes (reloads 6 0x00200000 0x001FFFFF)) 1
+    ∷ example (yes (reloads 6 0x001FFFFF 0x001FFFFE)) 0
+    ∷ example (written 255 0xFFFF0000 0xFF7FFFFF 0) 0xFF7F0000
+    ∷ example (yes (locked 0xFF7F0000 7)) 1
+    ∷ example (walkOf rack-k Any (replicate 16 0) .report .rounds) 16
+    ∷ example (walkOf rack-l Any [] .report .rounds) 1
+    ∷ []
+
+abbrev pub Hold : List Example → Type 0
+Hold [] = Unit
+Hold (x ∷ xs) = (x .gives ≡ x .wanted) × Hold xs
+
+pub marked : Hold examples
+unfolding crcWith crcRun crcByte crcBits crcBit endsInSlot endsIn written countDown lockDown reloads locked
+marked =
+    (refl, (refl, (refl, (refl, (refl, (refl, (refl, (refl, (refl, (refl, (refl, (refl, (walked-k (replicate 16 0) refl, (walked-l [] refl, tt))))))))))))))

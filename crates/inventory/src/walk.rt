@@ -15,6 +15,7 @@ ghost use Rattle.inventory.specs.Walk.{explore, depth, refusalOf, walkOf
 ghost use Rattle.inventory.specs.Promise.{Promise};
 
 // What a walk comes back with: the refusal's number or 0, how many labels the list holds, how many rounds it took.
+#[repr(C)]
 pub struct Walked {
     pub number: u8,
     pub labels: usize,

@@ -24,6 +24,7 @@ pub enum Said {
 }
 
 // What an event reports: the refusal's number or 0, how many tags answered, the length of an answer that was alone.
+#[repr(C)]
 pub struct Report {
     pub number: u8,
     pub answered: u8,

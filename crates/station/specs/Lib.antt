@@ -1,0 +1,2 @@
+-- What the numbers of the C face mean.
+pub mod Fields
