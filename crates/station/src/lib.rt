@@ -36,7 +36,12 @@ fn family_of(given: bool, afi: u8) -> Family
 
 // Walks a rack.
 #[no_mangle]
-pub extern "C" fn sackbutflare_walk(rack: &mut [u8], given: bool, afi: u8, list: &mut [u8]) -> Walked
+pub extern "C" fn sackbutflare_walk(
+    rack: &mut [u8],
+    given: bool,
+    afi: u8,
+    list: &mut [u8],
+) -> Walked
     ensures { λ r. ⌜ r ≡ walkOf (now (rack .entry)) (familyOf given afi) (now (list .entry)) .report ⌝ }
     ensures { λ _. ⌜ now (rack .exit) ≡ walkOf (now (rack .entry)) (familyOf given afi) (now (list .entry)) .rack ⌝ }
     ensures { λ _. ⌜ now (list .exit) ≡ walkOf (now (rack .entry)) (familyOf given afi) (now (list .entry)) .list ⌝ }

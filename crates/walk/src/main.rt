@@ -3,19 +3,7 @@ use inventory::walk::walk;
 use label::request::Family;
 use libc::STDIN_FILENO;
 use libc::STDOUT_FILENO;
-
-// A line a UID, of the first n of a list.
-fn print_list(list: &[u8], n: usize) {
-    let mut i = 0;
-    while i < n {
-        if list.len() / 8 <= i {
-            return;
-        }
-        text::hex::print_uid(STDOUT_FILENO, frame::uid::uid_at(list, 8 * i));
-        text::print::line_end(STDOUT_FILENO);
-        i += 1;
-    }
-}
+use script::replies::print_uids;
 
 fn main() {
     let mut tags = [0u8; 65537];
@@ -31,5 +19,5 @@ fn main() {
     io::write_all(STDOUT_FILENO, b"rounds ");
     text::print::number(STDOUT_FILENO, walked.rounds as u64);
     text::print::line_end(STDOUT_FILENO);
-    print_list(&list, walked.labels);
+    print_uids(&list, walked.labels, b"", b"\n");
 }

@@ -1,0 +1,2 @@
+-- The laws of what a line asks.
+pub mod Holds

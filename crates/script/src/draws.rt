@@ -1,0 +1,23 @@
+// The draws that the events take.
+use frame::number::byte_at;
+ghost use Prim.Native.Nat.{_≤_};
+
+// The bytes are the draws from now on; where there are fewer, the others are 00.
+pub fn set_draws(draws: &mut [u8], bytes: &[u8]) {
+    let mut i = 0;
+    while i < draws.len() {
+        draws[i] = byte_at(bytes, i);
+        i += 1;
+    }
+}
+
+// How many draws a rack takes: as many as it says it has tags, up to those at hand.
+pub fn draws_for(tags: &[u8], most: usize) -> usize
+    ensures { λ r. ⌜ r ≤ most ⌝ }
+{
+    let n = byte_at(tags, 1) as usize;
+    if most < n {
+        return most;
+    }
+    n
+}

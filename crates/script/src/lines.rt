@@ -1,0 +1,117 @@
+// What an event line asks.
+use frame::check_sum::seal;
+use text::hex::Run;
+use text::hex::read_bytes;
+use text::words::Word;
+use text::words::first_word;
+use text::words::is_blank_rest;
+ghost use Prim.Native.Nat.{_≤_};
+ghost use lib.ListN.{length};
+ghost use Rattle.script.specs.Held.{Held};
+
+// What is wrong with a line.
+pub enum Trouble {
+    // Its first word is none of the words.
+    Word,
+    // Something stands behind a word that takes nothing.
+    Behind,
+    // A byte that is no hex digit, or a digit that stands alone, in a column counted from 1.
+    Bad(u64),
+    Odd(u64),
+    // More bytes than there is room for.
+    Full,
+}
+
+pub enum Step {
+    // A blank line or a comment.
+    Nothing,
+    // An event: its number, and how many bytes its frame has.
+    Play(u8, usize),
+    // So many draws for what follows.
+    Draws(usize),
+    Wrong(Trouble),
+}
+
+// The column of a place behind a word that ends at `rest`.
+fn column(rest: usize, place: usize) -> u64 {
+    let at = std::num::wrapping_add_u64(rest as u64, place as u64);
+    std::num::wrapping_add_u64(at, 1)
+}
+
+// An event with no frame.
+fn bare(line: &[u8], rest: usize, number: u8) -> Step
+    ensures { λ r. ⌜ Held r 0 ⌝ }
+{
+    if is_blank_rest(line, rest) {
+        return Step::Play(number, 0);
+    }
+    Step::Wrong(Trouble::Behind)
+}
+
+// An event with the first n of the bytes and their check sum.
+fn summed(number: u8, bytes: &mut [u8], n: usize) -> Step
+    ensures { λ r. ⌜ Held r (length (now (bytes .exit))) ⌝ }
+{
+    if bytes.len() < 2 {
+        return Step::Wrong(Trouble::Full);
+    }
+    if bytes.len() - 2 < n {
+        return Step::Wrong(Trouble::Full);
+    }
+    let m = seal(bytes, n);
+    Step::Play(number, m)
+}
+
+// An event with a frame, which has its check sum or gets it here.
+fn framed(line: &[u8], rest: usize, number: u8, has_sum: bool, bytes: &mut [u8]) -> Step
+    requires { ⌜ rest ≤ length (now line) ⌝ }
+    ensures { λ r. ⌜ Held r (length (now (bytes .exit))) ⌝ }
+{
+    let run = read_bytes(&line[rest..], bytes);
+    match run {
+        Run::Bytes(n) => {
+            if has_sum {
+                return Step::Play(number, n);
+            }
+            summed(number, bytes, n)
+        }
+        Run::Bad(i) => Step::Wrong(Trouble::Bad(column(rest, i))),
+        Run::Odd(i) => Step::Wrong(Trouble::Odd(column(rest, i))),
+        Run::Full => Step::Wrong(Trouble::Full),
+    }
+}
+
+fn draws(line: &[u8], rest: usize, bytes: &mut [u8]) -> Step
+    requires { ⌜ rest ≤ length (now line) ⌝ }
+    ensures { λ r. ⌜ Held r (length (now (bytes .exit))) ⌝ }
+{
+    let run = read_bytes(&line[rest..], bytes);
+    match run {
+        Run::Bytes(n) => Step::Draws(n),
+        Run::Bad(i) => Step::Wrong(Trouble::Bad(column(rest, i))),
+        Run::Odd(i) => Step::Wrong(Trouble::Odd(column(rest, i))),
+        Run::Full => Step::Wrong(Trouble::Full),
+    }
+}
+
+// What a line asks; the bytes behind its word go to the front of a buffer.
+pub fn step_of(line: &[u8], bytes: &mut [u8]) -> Step
+    ensures { λ r. ⌜ Held r (length (now (bytes .exit))) ⌝ }
+{
+    let said = first_word(line);
+    let rest = said.rest;
+    let word = said.word;
+    match word {
+        Word::Empty => Step::Nothing,
+        Word::Comment => Step::Nothing,
+        Word::Off => bare(line, rest, 1),
+        Word::On => bare(line, rest, 2),
+        Word::Eof => bare(line, rest, 4),
+        Word::Label => framed(line, rest, 3, true, bytes),
+        Word::LabelSeal => framed(line, rest, 3, false, bytes),
+        Word::Chip => framed(line, rest, 5, true, bytes),
+        Word::ChipSeal => framed(line, rest, 5, false, bytes),
+        Word::Draws => draws(line, rest, bytes),
+        Word::Unknown => Step::Wrong(Trouble::Word),
+    }
+}

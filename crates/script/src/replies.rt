@@ -1,0 +1,82 @@
+// An event played, and its reply as text.
+use crate::draws::draws_for;
+use crate::lines::Trouble;
+use libc::STDOUT_FILENO;
+use rack::event::Report;
+use rack::event::event;
+
+fn say(s: &[u8]) {
+    io::write_all(STDOUT_FILENO, s);
+}
+
+// An event's kind, between its number and its reply.
+pub fn print_kind(number: u8) {
+    match number {
+        1 => say(b" off: "),
+        2 => say(b" on: "),
+        3 => say(b" label: "),
+        4 => say(b" eof: "),
+        5 => say(b" chip: "),
+        _ => say(b" event: "),
+    }
+}
+
+// Silence, the answer's bytes, a collision or a refusal.
+fn print_reply(report: Report, answer: &[u8]) {
+    if report.number != 0 {
+        say(b"refused ");
+        text::print::number(STDOUT_FILENO, report.number as u64);
+        return;
+    }
+    if report.answered == 0 {
+        say(b"silence");
+        return;
+    }
+    if report.answered == 1 {
+        let n = report.length;
+        if n <= answer.len() {
+            text::hex::print_bytes(STDOUT_FILENO, &answer[0..n]);
+        }
+        return;
+    }
+    say(b"collision of ");
+    text::print::number(STDOUT_FILENO, report.answered as u64);
+}
+
+// Plays an event on a rack and writes its reply.
+pub fn play_event(tags: &mut [u8], number: u8, frame: &[u8], draws: &[u8]) {
+    let mut answer = [0u8; 64];
+    let n = draws_for(tags, draws.len());
+    let report = event(tags, number, frame, &draws[0..n], &mut answer);
+    print_reply(report, &answer);
+}
+
+fn in_column(what: &[u8], column: u64) {
+    say(what);
+    say(b" in column ");
+    text::print::number(STDOUT_FILENO, column);
+}
+
+pub fn print_trouble(trouble: Trouble) {
+    match trouble {
+        Trouble::Word => say(b"no such word"),
+        Trouble::Behind => say(b"nothing may stand behind this word"),
+        Trouble::Bad(column) => in_column(b"no hex digit", column),
+        Trouble::Odd(column) => in_column(b"a hex digit alone", column),
+        Trouble::Full => say(b"too many bytes"),
+    }
+}
+
+// The UIDs of the first n labels of a list, high byte first, each between two texts.
+pub fn print_uids(list: &[u8], n: usize, before: &[u8], after: &[u8]) {
+    let mut i = 0;
+    while i < n {
+        if list.len() / 8 <= i {
+            return;
+        }
+        say(before);
+        text::hex::print_uid(STDOUT_FILENO, frame::uid::uid_at(list, 8 * i));
+        say(after);
+        i += 1;
+    }
+}

@@ -1,0 +1,75 @@
+// show RACK: prints a rack file, a line for each tag.
+mod chips;
+mod labels;
+mod words;
+
+use crate::words::number;
+use crate::words::say;
+use frame::number::byte_at;
+use libc::STDERR_FILENO;
+
+// Tag i.
+fn show_tag(i: usize, kind: u8, body: &[u8]) {
+    number(i);
+    if kind == 2 {
+        chips::show(body);
+    } else {
+        labels::show(body);
+    }
+    say(b"\n");
+}
+
+// Every tag, in the order of the entries.
+fn show_tags(tags: &[u8]) {
+    let n = byte_at(tags, 1) as usize;
+    let mut at = 2 + 8 * n;
+    let mut i = 0;
+    while i < n {
+        let e = 2 + 8 * i;
+        let len = byte_at(tags, e + 2) as usize + 256 * byte_at(tags, e + 3) as usize;
+        if tags.len() < at {
+            return;
+        }
+        if tags.len() - at < len {
+            return;
+        }
+        let end = at + len;
+        show_tag(i, byte_at(tags, e), &tags[at..end]);
+        at = end;
+        i += 1;
+    }
+}
+
+fn show(tags: &[u8]) {
+    let v = rack::file::judge(tags);
+    if v.number != 0 {
+        say(b"refused 1\n");
+        return;
+    }
+    say(b"tags ");
+    number(byte_at(tags, 1) as usize);
+    say(b"\n");
+    show_tags(tags);
+}
+
+fn main() {
+    if os::arg_count() != 2 {
+        io::write_all(STDERR_FILENO, b"usage: show RACK\n");
+        return;
+    }
+    let mut path = io::buffer();
+    let n = os::arg(1, &mut path);
+    if os::errno() != 0 {
+        os::fail(b"RACK");
+        return;
+    }
+    let fd = os::open_read(&path[0..n]);
+    if fd < 0 {
+        os::fail(&path[0..n]);
+        return;
+    }
+    let mut tags = [0u8; 65537];
+    let len = io::read_full(fd, &mut tags);
+    libc::close(fd);
+    show(&tags[0..len]);
+}

@@ -1,0 +1,42 @@
+// What an event changed in a rack, byte by byte: the tag, the place in its body, the old value and the new one.
+use frame::number::byte_at;
+use libc::STDOUT_FILENO;
+
+fn print_change(tag: usize, place: usize, old: u8, new: u8) {
+    io::write_all(STDOUT_FILENO, b" ");
+    text::print::number(STDOUT_FILENO, tag as u64);
+    io::write_all(STDOUT_FILENO, b".");
+    text::print::number(STDOUT_FILENO, place as u64);
+    io::write_all(STDOUT_FILENO, b":");
+    text::hex::print_byte(STDOUT_FILENO, old);
+    io::write_all(STDOUT_FILENO, b">");
+    text::hex::print_byte(STDOUT_FILENO, new);
+}
+
+// The changes of a tag whose body starts at a place.
+fn print_tag(old: &[u8], new: &[u8], tag: usize, at: usize, len: usize) {
+    let mut i = 0;
+    while i < len {
+        let place = std::num::wrapping_add_usize(at, i);
+        let a = byte_at(old, place);
+        let b = byte_at(new, place);
+        if a != b {
+            print_change(tag, i, a, b);
+        }
+        i += 1;
+    }
+}
+
+// The changes of every tag, in the order of the entries.
+pub fn print_changes(old: &[u8], new: &[u8]) {
+    let n = byte_at(new, 1) as usize;
+    let mut at = 2 + 8 * n;
+    let mut i = 0;
+    while i < n {
+        let e = 2 + 8 * i;
+        let len = byte_at(new, e + 2) as usize + 256 * byte_at(new, e + 3) as usize;
+        print_tag(old, new, i, at, len);
+        at = std::num::wrapping_add_usize(at, len);
+        i += 1;
+    }
+}
