@@ -1,0 +1,19 @@
+-- One reply, one content of the buffer: what each call ensures says what both are, so two replies that satisfy it are equal.
+-- Assumes nothing.
+use mathlib.Core.Path.{_≡_, sym, _∙_}
+use mathlib.Core.List.{List}
+use Prim.Native.Nat.{ℕ}
+use Rattle.reader.specs.declared.command.Command.{Command}
+use Rattle.reader.specs.declared.request.Written.{Written}
+use Rattle.reader.specs.declared.answer.Reading.{Reading}
+use Rattle.reader.specs.Request.{writtenOf, outOf}
+use Rattle.reader.specs.Answer.{readingOf}
+
+-- write_request: r and s two replies, x and y two contents of the buffer then
+pub one-writing : (c : Command) (uid d out : List ℕ) (r s : Written) (x y : List ℕ) → (r ≡ writtenOf c uid d out) × (x ≡ outOf c uid d out)
+    → (s ≡ writtenOf c uid d out) × (y ≡ outOf c uid d out) → (r ≡ s) × (x ≡ y)
+one-writing c uid d out r s x y p q = (p .0 ∙ sym (q .0), p .1 ∙ sym (q .1))
+
+-- read_answer
+pub one-reading : (c : Command) (uid : List ℕ) (n : ℕ) (f : List ℕ) (r s : Reading) → r ≡ readingOf c uid n f → s ≡ readingOf c uid n f → r ≡ s
+one-reading c uid n f r s p q = p ∙ sym q

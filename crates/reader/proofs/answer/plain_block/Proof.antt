@@ -1,0 +1,21 @@
+-- Each way out is a law of Ways; the search finds it, and its premises among the facts.
+-- Assumes nothing.
+use borrow.Author.Needs.{needs}
+use Rattle.reader.proofs.Ways.{ways}
+use Rattle.reader.proofs.answer.plain_block.Statement.{statement}
+use Rattle.reader.proofs.answer.plain_block.Tie as tie
+
+pub plain-block-spec : {M : Type 1} → statement M
+plain-block-spec =
+    tie.close
+    (tie.spec
+    (λ c κs. search needs)
+    (λ c. search ways)
+    (λ c κs. search needs)
+    (λ c. search ways)
+    (λ c. search needs)
+    (λ c κs. search needs)
+    (λ c. search ways)
+    (λ c. search needs)
+    (λ c κs. search needs)
+    (λ c. search ways))

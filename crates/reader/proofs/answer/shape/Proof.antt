@@ -1,0 +1,25 @@
+-- Each way out is a law of Ways; the search finds it, and its premises among the facts.
+-- Assumes nothing.
+use Rattle.reader.specs.Answer.{shapeOf}
+use borrow.Author.Needs.{needs}
+use Rattle.reader.proofs.Ways.{ways}
+use Rattle.reader.proofs.answer.shape.Statement.{statement}
+use Rattle.reader.proofs.answer.shape.Tie as tie
+
+pub shape-spec : {M : Type 1} → statement M
+unfolding shapeOf
+shape-spec =
+    tie.close
+    (tie.spec
+    (λ c. search needs)
+    (λ c κs. search needs)
+    (λ c. search needs)
+    (λ c κs. search needs)
+    (λ c. search needs)
+    (λ c κs. search needs)
+    (λ c. search needs)
+    (λ c κs. search needs)
+    (λ c. search ways)
+    (λ c. search ways)
+    (λ c. search ways)
+    (λ c. search ways))

@@ -1,0 +1,12 @@
+-- Each way out is a law of Ways; the search finds it, and its premises among the facts.
+-- Assumes nothing.
+use Rattle.reader.proofs.Ways.{ways}
+use Rattle.reader.proofs.command.slot_fits.Statement.{statement}
+use Rattle.reader.proofs.command.slot_fits.Tie as tie
+
+pub slot-fits-spec : {M : Type 1} → statement M
+slot-fits-spec =
+    tie.close
+    (tie.spec
+    (λ c. search ways)
+    (λ c. search ways))

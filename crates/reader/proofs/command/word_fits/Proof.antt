@@ -1,0 +1,14 @@
+-- Each way out is a law of Ways; the search finds it, and its premises among the facts.
+-- Assumes nothing.
+use borrow.Author.Needs.{needs}
+use Rattle.reader.proofs.Ways.{ways}
+use Rattle.reader.proofs.command.word_fits.Statement.{statement}
+use Rattle.reader.proofs.command.word_fits.Tie as tie
+
+pub word-fits-spec : {M : Type 1} → statement M
+word-fits-spec =
+    tie.close
+    (tie.spec
+    (λ c κs. search needs)
+    (λ c. search ways)
+    (λ c. search ways))
