@@ -3,12 +3,15 @@ mod cases;
 mod changes;
 mod check_sums;
 mod endings;
+mod meanings;
 mod refusals;
+mod trips;
 mod walks;
 
 fn main() {
     check_sums::run();
     endings::run();
     refusals::run();
+    trips::run();
     cases::run();
 }

@@ -14,7 +14,7 @@ fn number(name: &[u8], x: usize) {
 }
 
 // Two labels with UIDs 11 and u, the first ready and the second in a state, in a file of an edition.
-fn rack_of(edition: u8, u: u8, state: u8) -> [u8; 86] {
+pub fn rack_of(edition: u8, u: u8, state: u8) -> [u8; 86] {
     let mut r = [0u8; 86];
     r[0] = edition;
     r[1] = 2;
