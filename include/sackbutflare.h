@@ -3,6 +3,7 @@
  * Link with target/staticlib/libstation.a, which `rt staticlib station` writes for x86-64.
  * Bytes go as a pointer and a length; a null pointer with length 0 is fine. In every result `number` is 0 for a success, and else the
  * number of the refusal: then all the rest of the result is 0 and no byte handed over has changed.
+ * No two of the buffers handed to one call may overlap, and no other thread may change one meanwhile.
  */
 #ifndef SACKBUTFLARE_H
 #define SACKBUTFLARE_H
@@ -10,6 +11,8 @@
 #include <stdbool.h>
 #include <stddef.h>
 #include <stdint.h>
+
+/* ---- the rack */
 
 /* How many tags answered, and the length of an answer that was alone: its frame then opens the answer buffer. */
 struct sackbutflare_report {
@@ -34,5 +37,79 @@ struct sackbutflare_walked {
 /* Walks a rack, with an AFI where one is given. Refusals: 1 rack not well-formed, 5 list under 8 bytes a tag, 6 two labels in state 1 or 3
  * have one UID. */
 struct sackbutflare_walked sackbutflare_walk(uint8_t *rack, size_t rack_length, bool afi_given, uint8_t afi, uint8_t *list, size_t list_length);
+
+/* ---- the reader's side */
+
+enum { SACKBUTFLARE_LABEL = 1, SACKBUTFLARE_CHIP = 2 };
+
+enum { SACKBUTFLARE_EVERYONE = 0, SACKBUTFLARE_SELECTED = 1, SACKBUTFLARE_ONE_UID = 2 };
+
+/* A command. A label's code is its command byte. A chip's is its first byte, but Initiate is 0600 and Pcall16 0604; a slot marker is 06, with
+ * the slot in `byte`. Fields that a command does not have are not looked at. */
+struct sackbutflare_command {
+    uint8_t kind;
+    uint8_t target;
+    bool option;
+    bool sixteen;      /* Inventory: sixteen slots, else one */
+    bool afi_given;    /* Inventory: an AFI is sent */
+    uint8_t afi;
+    uint8_t mask_bits; /* Inventory: the length of the mask */
+    uint8_t byte;      /* block, address, slot, Chip_ID, or AFI or DSFID to write */
+    uint16_t code;
+    uint64_t mask;     /* Inventory: the mask as a number */
+};
+
+struct sackbutflare_written {
+    uint8_t number;
+    size_t length;
+};
+
+/* Writes the request of a command, with its check sum, to the front of out, which has 64 bytes or more. uid points at eight bytes, least
+ * significant first, for every command; they count where the target is one UID. data is what label 21 and chip 09 write.
+ * Refusals: 3 out under 64 bytes, 7 no request has these fields. */
+struct sackbutflare_written sackbutflare_write_request(struct sackbutflare_command command, const uint8_t uid[8], const uint8_t *data,
+                                                       size_t data_length, uint8_t *out, size_t out_length);
+
+/* What an answer means, and what is told with it. */
+enum {
+    SACKBUTFLARE_REFUSED = 0,
+    SACKBUTFLARE_ERROR = 1,        /* error: the label's own code */
+    SACKBUTFLARE_DONE = 2,
+    SACKBUTFLARE_FOUND = 3,        /* dsfid, uid: to an Inventory */
+    SACKBUTFLARE_BLOCK = 4,        /* place and length of its bytes in the frame */
+    SACKBUTFLARE_LOCKED_BLOCK = 5, /* lock, place, length: to a read with Option */
+    SACKBUTFLARE_SYSTEM = 6,       /* dsfid, afi, blocks, size, ic, uid; blocks and size as sent, less 1 */
+    SACKBUTFLARE_CHIP_ID = 7,      /* id */
+    SACKBUTFLARE_WORD = 8,         /* word: a chip's block */
+    SACKBUTFLARE_CHIP_UID = 9      /* uid */
+};
+
+/* Numbers that do not go with the meaning are 0. */
+struct sackbutflare_told {
+    uint8_t number;
+    uint8_t meaning;
+    uint8_t error;
+    uint8_t dsfid;
+    uint8_t afi;
+    uint8_t blocks;
+    uint8_t size;
+    uint8_t ic;
+    uint8_t lock;
+    uint8_t id;
+    uint32_t word;
+    size_t place;
+    size_t length;
+    uint64_t uid;
+};
+
+/* Reads the answer to a command that was sent for uid, as above, with so many bytes of data. Refusals: 7 no request has these fields, 8 under 3
+ * bytes or a wrong check sum, 9 not an answer to this command. */
+struct sackbutflare_told sackbutflare_read_answer(struct sackbutflare_command command, const uint8_t uid[8], size_t data_length,
+                                                  const uint8_t *frame, size_t frame_length);
+
+/* ---- frames */
+
+/* The check sum of a frame's bytes, which follows them low byte first. */
+uint16_t sackbutflare_check_sum(const uint8_t *bytes, size_t length);
 
 #endif

@@ -14,3 +14,11 @@ case $(uname -m) in
         ;;
 esac
 flags="-std=c11 -Wall -Wextra -Werror -pedantic -O2"
+
+# Makes the archive of the C face where there is none or a source is newer. One that could not be made leaves none behind to be tested instead.
+archive() {
+    local made=target/staticlib/libstation.a
+    if [ -f "$made" ] && [ -z "$(find crates crates.txt -newer "$made" -type f -print -quit)" ]; then return 0; fi
+    rm -f "$made"
+    rt staticlib station
+}

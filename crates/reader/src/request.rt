@@ -20,6 +20,7 @@ ghost use Rattle.reader.specs.Request.{mode, writtenOf, outOf};
 ghost use Rattle.reader.specs.Plan.{partsOf, uidCount, labelPlan, shortPlan, maskPlan, inventoryPlan, taskPlan, chipPlan, planOf, RangedFamily, RangedTask, RangedChip, Ranged, Small};
 
 // What the writer comes back with: the refusal's number or 0, and the request's length.
+#[repr(C)]
 pub struct Written {
     pub number: u8,
     pub length: usize,

@@ -1,2 +1,3 @@
 -- What the numbers of the C face mean.
 pub mod Fields
+pub mod Told

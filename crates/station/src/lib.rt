@@ -1,12 +1,25 @@
 // The calls for a station's test bench, in C: numbers, bytes with their length, plain structs. include/sackbutflare.h declares them.
+pub mod fields;
+pub mod told;
+
+use crate::fields::Fields;
+use crate::fields::command_of;
+use crate::fields::family_of;
+use crate::told::Told;
+use crate::told::tell;
+use frame::uid::uid_number;
 use inventory::walk::Walked;
-use label::request::Family;
 use rack::event::Report;
+use reader::request::Written;
 ghost use mathlib.Core.Path.{_≡_};
+ghost use Rattle.frame.specs.CheckSum.{crcOf};
 ghost use Rattle.rack.specs.Event.{eventOf};
 ghost use Rattle.inventory.specs.Walk.{walkOf};
 ghost use Rattle.inventory.specs.Promise.{Promise};
-ghost use Rattle.station.specs.Fields.{familyOf};
+ghost use Rattle.reader.specs.Request.{writtenOf, outOf};
+ghost use Rattle.reader.specs.Answer.{readingOf};
+ghost use Rattle.station.specs.Fields.{familyOf, commandOf};
+ghost use Rattle.station.specs.Told.{toldOf};
 
 // Plays an event on a rack.
 #[no_mangle]
@@ -24,16 +37,6 @@ pub extern "C" fn sackbutflare_event(
     rack::event::event(rack, number, frame, draws, answer)
 }
 
-// The family asked for: an AFI byte, or none.
-fn family_of(given: bool, afi: u8) -> Family
-    ensures { λ r. ⌜ r ≡ familyOf given afi ⌝ }
-{
-    if given {
-        return Family::Only(afi);
-    }
-    Family::Any
-}
-
 // Walks a rack.
 #[no_mangle]
 pub extern "C" fn sackbutflare_walk(
@@ -49,4 +52,39 @@ pub extern "C" fn sackbutflare_walk(
 {
     let family = family_of(given, afi);
     inventory::walk::walk(rack, family, list)
+}
+
+// Writes the request of a command to the front of out. The eight bytes of uid are always read; they count where the command is for one UID.
+#[no_mangle]
+pub extern "C" fn sackbutflare_write_request(
+    f: Fields,
+    uid: &[u8; 8],
+    data: &[u8],
+    out: &mut [u8],
+) -> Written
+    ensures { λ r. ⌜ r ≡ writtenOf (commandOf f) (now (uid .entry)) (now («data» .entry)) (now (out .entry)) ⌝ }
+    ensures { λ _. ⌜ now (out .exit) ≡ outOf (commandOf f) (now (uid .entry)) (now («data» .entry)) (now (out .entry)) ⌝ }
+{
+    let c = command_of(f);
+    reader::request::write_request(c, *uid, data, out)
+}
+
+// Reads the answer to a command that was sent with n bytes of data.
+#[no_mangle]
+pub extern "C" fn sackbutflare_read_answer(f: Fields, uid: &[u8; 8], n: usize, frame: &[u8]) -> Told
+    ensures { λ r. ⌜ r ≡ toldOf (readingOf (commandOf f) (now (uid .entry)) n (now (frame .entry))) ⌝ }
+{
+    let c = command_of(f);
+    let r = reader::answer::read_answer(c, *uid, n, frame);
+    let u = r.uid;
+    let meaning = r.meaning;
+    tell(meaning, uid_number(u))
+}
+
+// The check sum of a frame's bytes, which follows them low byte first.
+#[no_mangle]
+pub extern "C" fn sackbutflare_check_sum(bytes: &[u8]) -> u16
+    ensures { λ r. ⌜ r ≡ crcOf (now (bytes .entry)) ⌝ }
+{
+    frame::check_sum::sum_of(bytes)
 }

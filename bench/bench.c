@@ -1,0 +1,200 @@
+/* bench.c - times the proved library against the reference in plain C, in one run, and prints a table: nanoseconds a call and their ratio.
+ * Each number is the best of several tries, taken in turn. The clock is the process's own, and a try lasts equally long for both: on a busy
+ * machine a short try would else slip in between two interruptions and a long one never could, in favour of the quicker call. */
+#include "reference.h"
+#include "sackbutflare.h"
+
+#include <stdio.h>
+#include <string.h>
+#include <time.h>
+
+enum { TRIES = 15, MOST = 65536 };
+
+static const double TRY = 0.004;       /* seconds */
+
+static uint8_t rack[MOST], work[MOST], answer[64], list[512];
+static const uint8_t draws[64];
+static size_t rack_len;
+static volatile unsigned sink;         /* lest the compiler leave a call out */
+
+/* What one case is played with. */
+struct play {
+    uint8_t tags;
+    uint8_t number;
+    const uint8_t *frame;
+    size_t frame_len;
+};
+static struct play now;
+
+static double seconds(void)
+{
+    struct timespec t;
+    clock_gettime(CLOCK_PROCESS_CPUTIME_ID, &t);
+    return (double)t.tv_sec + 1e-9 * (double)t.tv_nsec;
+}
+
+/* ------------------------------------------------------------------ the calls */
+
+static void our_sum(void) { sink += sackbutflare_check_sum(rack, MOST); }
+static void ref_sum(void) { sink += ref_check_sum(rack, MOST); }
+
+/* The reference goes bit by bit, to be read easily; this is what C for speed would do. */
+static uint16_t table[256];
+
+static void make_table(void)
+{
+    for (unsigned i = 0; i < 256; i++) {
+        unsigned r = i;
+        for (int k = 0; k < 8; k++)
+            r = r & 1 ? r >> 1 ^ 0x8408 : r >> 1;
+        table[i] = (uint16_t)r;
+    }
+}
+
+static uint16_t quick_sum(const uint8_t *bytes, size_t len)
+{
+    uint16_t r = 0xFFFF;
+    for (size_t i = 0; i < len; i++)
+        r = (uint16_t)(r >> 8 ^ table[(r ^ bytes[i]) & 0xFF]);
+    return (uint16_t)~r;
+}
+
+static void table_sum(void) { sink += quick_sum(rack, MOST); }
+
+static void our_event(void)
+{
+    sink += sackbutflare_event(work, rack_len, now.number, now.frame, now.frame_len, draws, now.tags, answer, 64).answered;
+}
+
+static void the_event(void)
+{
+    struct ref_report r;
+    ref_event(work, rack_len, now.number, now.frame, now.frame_len, draws, now.tags, answer, 64, &r);
+    sink += r.answered;
+}
+
+static void our_walk(void)
+{
+    sink += (unsigned)sackbutflare_walk(work, rack_len, false, 0, list, sizeof list).rounds;
+}
+
+static void the_walk(void)
+{
+    struct ref_walked w;
+    ref_walk(work, rack_len, 0, 0, list, sizeof list, &w);
+    sink += w.rounds;
+}
+
+/* ------------------------------------------------------------------- the racks */
+
+static uint8_t *enter(int tag, size_t length, size_t place)
+{
+    uint8_t *entry = rack + 2 + 8 * tag;
+    entry[0] = 1;
+    entry[2] = (uint8_t)length;
+    entry[3] = (uint8_t)(length >> 8);
+    entry[4] = (uint8_t)place;
+    entry[5] = (uint8_t)(place >> 8);
+    return rack + place;
+}
+
+/* n ready labels. Easy for a walk: the low byte tells them apart. Hard: they stand in pairs that differ in the four highest bits alone, so that
+ * a pair collides all the way up. */
+static void make(int n, unsigned blocks, unsigned size, int hard)
+{
+    size_t length = 32 + blocks * (1 + size), place = 2 + 8 * (size_t)n;
+    memset(rack, 0, sizeof rack);
+    rack[0] = 1;
+    rack[1] = (uint8_t)n;
+    for (int i = 0; i < n; i++) {
+        uint8_t *body = enter(i, length, place);
+        body[0] = (uint8_t)(hard ? i / 2 : i);
+        body[7] = hard && i % 2 ? 0xD0 : 0xE0;
+        body[11] = (uint8_t)(blocks - 1);
+        body[12] = (uint8_t)(size - 1);
+        body[14] = 1;
+        body[15] = 255;
+        place += length;
+    }
+    rack_len = place;
+}
+
+/* ------------------------------------------------------------------- the table */
+
+static double once(void (*call)(void), long times)
+{
+    memcpy(work, rack, sizeof work);
+    double start = seconds();
+    for (long i = 0; i < times; i++)
+        call();
+    return (seconds() - start) / (double)times;
+}
+
+/* How many calls a try takes. */
+static long fill(void (*call)(void))
+{
+    long times = 1;
+    while (once(call, times) * (double)times < TRY)
+        times *= 2;
+    return times;
+}
+
+static void row(const char *what, int n, void (*ours)(void), void (*theirs)(void))
+{
+    double a = 1e9, b = 1e9;
+    long our_times = fill(ours), their_times = fill(theirs);
+    for (int i = 0; i < TRIES; i++) {
+        double x = once(ours, our_times), y = once(theirs, their_times);
+        a = x < a ? x : a;
+        b = y < b ? y : b;
+    }
+    printf("| %s | %d | %.0f | %.0f | %.2f |\n", what, n, a * 1e9, b * 1e9, a / b);
+}
+
+static void events(int n, unsigned blocks, unsigned size)
+{
+    static const uint8_t inventory[] = { 0x06, 0x01, 0x00, 0xCD, 0x09 }, info[] = { 0x02, 0x2B, 0x26, 0xA3 };
+    char what[80];
+    make(n, blocks, size, 0);
+    now = (struct play) { (uint8_t)n, 4, NULL, 0 };
+    snprintf(what, sizeof what, "event: end of frame, rack of %zu bytes", rack_len);
+    row(what, n, our_event, the_event);
+    now = (struct play) { (uint8_t)n, 3, inventory, sizeof inventory };
+    row("event: inventory, sixteen slots", n, our_event, the_event);
+    now = (struct play) { (uint8_t)n, 3, info, sizeof info };
+    row("event: system information", n, our_event, the_event);
+}
+
+/* Walks one rack over and over; each walk must take as many rounds as the first did in the reference, else the times do not compare. */
+static void walks(const char *what, int hard)
+{
+    for (int n = 1; n <= 64; n *= n < 16 ? 4 : 2) {
+        struct ref_walked w;
+        char name[80];
+        make(n, 1, 1, hard);
+        memcpy(work, rack, sizeof work);
+        ref_walk(work, rack_len, 0, 0, list, sizeof list, &w);
+        for (int i = 0; i < 3; i++)
+            if (sackbutflare_walk(work, rack_len, false, 0, list, sizeof list).rounds != w.rounds)
+                printf("other rounds than the reference\n");
+        snprintf(name, sizeof name, "walk, %s: %u rounds", what, w.rounds);
+        row(name, n, our_walk, the_walk);
+    }
+}
+
+int main(void)
+{
+    printf("| call | tags | ns ours | ns C | ratio |\n|---|---|---|---|---|\n");
+    make(1, 4, 4, 0);
+    make_table();
+    if (quick_sum(rack, MOST) != ref_check_sum(rack, MOST) || quick_sum(rack, MOST) != sackbutflare_check_sum(rack, MOST))
+        printf("check sums differ\n");
+    row("check sum of 64 KiB", 0, our_sum, ref_sum);
+    row("the same against C with a table", 0, our_sum, table_sum);
+    for (int n = 1; n <= 64; n *= 8)
+        events(n, 4, 4);
+    events(64, 28, 32);
+    walks("easy", 0);
+    walks("hard", 1);
+    return 0;
+}

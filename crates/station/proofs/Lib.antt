@@ -1,0 +1,2 @@
+-- The C face, as laws.
+pub mod Ways
