@@ -1,10 +1,10 @@
--- The laws of the check sum. The register's step is linear in exclusive or and forgets nothing, so eight bits at once are a table's entry and a shift,
+-- The laws of the check sum. The register's step is linear in exclusive or and forgets nothing, so eight or sixteen bits at once are a sum of shifts,
 -- and two bytes at once are one number of sixteen bits.
 -- Assumes nothing.
 use mathlib.Core.Path.{_≡_, refl, sym, ap, ap₂, _∙_}
 use mathlib.Core.Bool.{Bool, true, false}
 use mathlib.Core.List.{List, [], _∷_, _++_}
-use Prim.Native.Nat.{ℕ, zero, suc, _+_, _*_, _/_, _%_, _^_, _≤_, _<_}
+use Prim.Native.Nat.{ℕ, zero, suc, _+_, _-_, _*_, _/_, _%_, _^_, _≤_, _<_}
 use native.Mathlib.Nat.{mod-lt, zero-lt-suc, not-suc-le-zero, le-of-suc-le-suc, mul-one, add-comm}
 use native.Mathlib.Numerals.{add-one}
 use native.Mathlib.Omega.{arith}
@@ -15,7 +15,7 @@ use lib.Pow.{pow-pos, split}
 use lib.Bits.{bitXor, differ, xor-zero-r, xor-lt, xor-self, xor-comm, xor-shifted, shifted-half, shifted-even}
 use Rattle.frame.specs.Number.{Bytes}
 use Rattle.frame.specs.CheckSum.{polynomial, crcBit, crcBits, crcByte, crcRun, crcEnd, crcWith, residue}
-use Rattle.frame.proofs.Lists.{valuesFrom, value-at}
+use Rattle.frame.proofs.Linear.{Linear, itself, plus, after, down, up, by-powers}
 use Rattle.frame.proofs.Xor.{xor-half, xor-odd, xor-swap, xor-assoc, xor-again, xor-eq, xor-ones}
 
 -- ---- the step is linear
@@ -51,20 +51,37 @@ bits-shifted (suc n) h =
     (ap₂ bitXor (shifted-half h n) (ap (λ (x : ℕ). x * polynomial) (shifted-even h n)) ∙ xor-zero-r (h * 2 ^ n))
     ∙ bits-shifted n h
 
--- n bits at once: what is above them moves down, and the entry for them is added
-pub bits-split : (n x : ℕ) → crcBits n x ≡ bitXor (x / 2 ^ n) (crcBits n (x % 2 ^ n))
-bits-split n x =
-    ap (crcBits n) (sym (split x n) ∙ sym (xor-shifted (x / 2 ^ n) n (x % 2 ^ n) (mod-lt x (pow-pos n))))
-    ∙ bits-xor n (x / 2 ^ n * 2 ^ n) (x % 2 ^ n)
-    ∙ ap (λ (y : ℕ). bitXor y (crcBits n (x % 2 ^ n))) (bits-shifted n (x / 2 ^ n))
+-- ---- eight bits and sixteen bits at once, as a sum of shifts
 
--- the table's rule: with the 256 values in a table, a byte's step is a shift and an entry
-pub table-step : (r b : ℕ)
-    → bitXor (bitXor r b / 256) (getD (valuesFrom (crcBits 8) 0 256) (bitXor r b % 256) 0) ≡ crcByte r b
-unfolding crcByte
-table-step r b =
-    let x = bitXor r b in
-    ap (bitXor (x / 256)) (value-at (crcBits 8) 256 (x % 256) (mod-lt x (zero-lt-suc 255))) ∙ sym (bits-split 8 x)
+-- up by k in the register
+abbrev up16 : ℕ → ℕ → ℕ
+up16 k x = x * 2 ^ k % 2 ^ 16
+
+-- the bits that leave, of eight and of sixteen: those of x, and what bits that left before turned over in them
+abbrev eight : ℕ → ℕ
+eight x = bitXor (up16 8 x) (up16 12 x)
+
+abbrev sixteen : ℕ → ℕ
+sixteen x = bitXor (bitXor (bitXor (bitXor x (up16 4 x)) (up16 8 x)) (up16 11 x)) (up16 12 x)
+
+-- what they leave in the register: the polynomial's three terms
+abbrev added : ℕ → ℕ
+added y = bitXor (bitXor y (y / 2 ^ 5)) (y / 2 ^ 12)
+
+added-linear : {f : ℕ → ℕ} → Linear f → Linear (λ (x : ℕ). added (f x))
+added-linear p = plus (plus p (after (down 5) p)) (after (down 12) p)
+
+bits-linear : (n : ℕ) → Linear (crcBits n)
+bits-linear n = record { over = bits-xor n }
+
+pub eight-shifts : (x : ℕ) → x < 2 ^ 16 → bitXor (x / 2 ^ 8) (added (eight x)) ≡ crcBits 8 x
+unfolding crcBits crcBit
+eight-shifts = by-powers _ (crcBits 8) (plus (down 8) (added-linear (plus (up 8 16) (up 12 16)))) (bits-linear 8) 16 refl
+
+pub sixteen-shifts : (x : ℕ) → x < 2 ^ 16 → added (sixteen x) ≡ crcBits 16 x
+unfolding crcBits crcBit
+sixteen-shifts =
+    by-powers _ (crcBits 16) (added-linear (plus (plus (plus (plus itself (up 4 16)) (up 8 16)) (up 11 16)) (up 12 16))) (bits-linear 16) 16 refl
 
 -- ---- the register over the bytes of a list
 
@@ -147,6 +164,29 @@ two-bytes r lo hi h =
     (ap (bitXor r) (add-comm lo (hi * 256) ∙ sym (xor-shifted hi 8 lo h) ∙ xor-comm (hi * 256) lo) ∙ sym (xor-assoc r lo (hi * 256)))
     ∙ bits-xor 8 (bitXor r lo) (hi * 256)
     ∙ ap (bitXor (crcBits 8 (bitXor r lo))) (bits-shifted 8 hi)))
+
+-- for a loop by pairs of bytes: the register r over k pairs, and o after one pair more
+pub run-pair : {r o : ℕ} (start : ℕ) (s : List ℕ) (k : ℕ) → Bytes s → r ≡ crcRun start (take (2 * k) s)
+    → o ≡ crcBits 16 (bitXor r (getD s (2 * k) 0 + getD s (2 * k + 1) 0 * 256)) → k < length s / 2 → o ≡ crcRun start (take (2 * (k + 1)) s)
+unfolding crcRun
+run-pair {r} {o} start s k bs e f h =
+    let i = 2 * k in
+    let n : 2 * (k + 1) ≡ i + 1 + 1 = omega arith in
+    rw n
+    (f
+    ∙ sym (two-bytes r (getD s i 0) (getD s (i + 1) 0) (bs i))
+    ∙ run-more start s (i + 1) (run-more start s i e refl (omega arith)) refl (omega arith))
+
+-- at the loop's end, where no byte is left ..
+pub run-pairs : {r : ℕ} (start : ℕ) (s : List ℕ) (k : ℕ) → r ≡ crcRun start (take (2 * k) s) → length s / 2 ≤ k → length s % 2 ≡ 0 → r ≡ crcRun start s
+run-pairs start s k e h m = run-all start s (2 * k) e (omega arith)
+
+-- .. and where one is
+pub run-last : {r o : ℕ} (start : ℕ) (s : List ℕ) (k : ℕ) → k ≤ length s / 2 → r ≡ crcRun start (take (2 * k) s) → length s / 2 ≤ k
+    → (length s % 2 ≡ 0 → ⊥) → o ≡ crcByte r (getD s (length s - 1) 0) → o ≡ crcRun start s
+run-last {r} {o} start s k l e h m f =
+    let n : length s - 1 ≡ 2 * k = omega arith in
+    run-all start s (2 * k + 1) (run-more start s (2 * k) e (rw n at f) (omega arith)) (omega arith)
 
 -- what inverting adds
 abbrev flip : Bool → ℕ

@@ -3,6 +3,7 @@ pub mod Tests
 pub mod Bools
 pub mod Lists
 pub mod Xor
+pub mod Linear
 pub mod Numbers
 pub mod CheckSumLaws
 pub mod Frames

@@ -1,37 +1,36 @@
--- The register after i bytes is the run over them; a turn is the table's rule, and antt computes the 256 values to compare them with the source's table.
+-- The register after k pairs of bytes is the run over them; a turn is sixteen bits at once, and an odd byte is left for the end.
 -- Assumes nothing.
 use mathlib.Core.Path.{_≡_, refl}
-use Prim.Native.Nat.{_≤_, _-_}
-use native.Mathlib.Omega.{arith}
-use lib.ListN.{length, take, getD}
+use Prim.Native.Nat.{_≤_, _-_, _*_}
+use lib.ListN.{take}
 use borrow.Author.Needs.{needs}
-use Rattle.frame.specs.CheckSum.{crcBit, crcBits, crcRun}
-use Rattle.frame.proofs.CheckSumLaws.{table-step, run-more, run-all}
+use Rattle.frame.specs.CheckSum.{crcRun}
+use Rattle.frame.proofs.CheckSumLaws.{run-pair, run-pairs, run-last}
 use Rattle.frame.proofs.check_sum.run.Statement.{statement}
 use Rattle.frame.proofs.check_sum.run.Tie as tie
 
 abbrev Inv-loop : tie.InvT-loop
-Inv-loop start s table r₀ i₀ r i = (i ≤ length s) × (r ≡ crcRun start (take i s))
+Inv-loop start s pairs r₀ k₀ r k = (k ≤ pairs) × (r ≡ crcRun start (take (2 * k) s))
 
 abbrev μ-loop : tie.MeasureT-loop
-μ-loop start s table r₀ i₀ r i = length s - i
+μ-loop start s pairs r₀ k₀ r k = pairs - k
 
 loop-holds : tie.Need-loop-holds Inv-loop μ-loop
 unfolding crcRun
 loop-holds c = (search needs, refl)
 
-cast-x : tie.Need-cast-x Inv-loop μ-loop
-cast-x c = omega (arith, c .shared-slice-known .given (c .before .before .loop .i))
-
 loop-again : tie.Need-loop-again Inv-loop μ-loop
-unfolding crcBits crcBit
 loop-again c =
-    let l = c .before .before .loop in
-    let s = c .before .before .before .args .s .now in
-    (search needs, run-more _ s (l .i) (l .inv .1) (table-step (l .r) (getD s (l .i) 0)) (c .before .loop-test .taken))
+    let a = c .before .before .before .before in
+    (search needs, run-pair _ _ (a .loop .k) (λ i. a .before .shared-slice-known .given i .fits) (a .loop .inv .1) (c .two-bytes .ensures) (c .before .before .before .loop-test .taken))
 
 returns : tie.Need-returns Inv-loop μ-loop
-returns c = run-all _ _ _ (c .before .loop .inv .1) (c .loop-test .left)
+returns c = run-pairs _ _ _ (c .before .before .loop .inv .1) (c .before .loop-test .left) (c .if1 .taken)
+
+returns-2 : tie.Need-returns-2 Inv-loop μ-loop
+returns-2 c =
+    let a = c .before .before in
+    run-last _ _ _ (a .before .before .loop .inv .0) (a .before .before .loop .inv .1) (a .before .loop-test .left) (a .if1 .left) (c .one-byte .ensures)
 
 pub run-spec : {M : Type 1} → statement M
 run-spec =
@@ -41,11 +40,16 @@ run-spec =
     μ-loop
     loop-holds
     (λ c. search needs)
-    cast-x
     (λ c. search needs)
     (λ c. search needs)
     (λ c. search needs)
+    (λ c. search needs)
+    (λ c κs. tt)
     (λ c. search needs)
     (λ c. search needs)
     loop-again
-    returns)
+    returns
+    (λ c. search needs)
+    (λ c. search needs)
+    (λ c κs. tt)
+    returns-2)
