@@ -1,7 +1,7 @@
 -- The laws of the check sum. The register's step is linear in exclusive or and forgets nothing, so eight or sixteen bits at once are a sum of shifts,
 -- and two bytes at once are one number of sixteen bits.
 -- Assumes nothing.
-use mathlib.Core.Path.{_≡_, refl, sym, ap, ap₂, _∙_}
+use mathlib.Core.Path.{_≡_, refl, sym, subst, ap, ap₂, _∙_}
 use mathlib.Core.Bool.{Bool, true, false}
 use mathlib.Core.List.{List, [], _∷_, _++_}
 use Prim.Native.Nat.{ℕ, zero, suc, _+_, _-_, _*_, _/_, _%_, _^_, _≤_, _<_}
@@ -15,7 +15,7 @@ use lib.Pow.{pow-pos, split}
 use lib.Bits.{bitXor, differ, xor-zero-r, xor-lt, xor-self, xor-comm, xor-shifted, shifted-half, shifted-even}
 use Rattle.frame.specs.Number.{Bytes}
 use Rattle.frame.specs.CheckSum.{polynomial, crcBit, crcBits, crcByte, crcRun, crcEnd, crcWith, residue}
-use Rattle.frame.proofs.Linear.{Linear, itself, plus, after, down, up, by-powers}
+use Rattle.frame.proofs.Linear.{Linear, itself, plus, after, down, low, up, by-powers}
 use Rattle.frame.proofs.Xor.{xor-half, xor-odd, xor-swap, xor-assoc, xor-again, xor-eq, xor-ones}
 
 -- ---- the step is linear
@@ -51,18 +51,29 @@ bits-shifted (suc n) h =
     (ap₂ bitXor (shifted-half h n) (ap (λ (x : ℕ). x * polynomial) (shifted-even h n)) ∙ xor-zero-r (h * 2 ^ n))
     ∙ bits-shifted n h
 
+-- ---- the register stays below 2 ^ 16
+
+bit-lt : (r : ℕ) → r < 2 ^ 16 → crcBit r < 2 ^ 16
+unfolding crcBit
+bit-lt r h = xor-lt 16 (r / 2) (r % 2 * polynomial) (omega arith) (omega arith)
+
+bits-lt : (n r : ℕ) → r < 2 ^ 16 → crcBits n r < 2 ^ 16
+unfolding crcBits
+bits-lt zero r h = h
+bits-lt (suc n) r h = bits-lt n (crcBit r) (bit-lt r h)
+
 -- ---- eight bits and sixteen bits at once, as a sum of shifts
 
--- up by k in the register
-abbrev up16 : ℕ → ℕ → ℕ
-up16 k x = x * 2 ^ k % 2 ^ 16
+-- up by k, in the 32 bits that hold the register
+abbrev up32 : ℕ → ℕ → ℕ
+up32 k x = x * 2 ^ k % 2 ^ 32
 
 -- the bits that leave, of eight and of sixteen: those of x, and what bits that left before turned over in them
 abbrev eight : ℕ → ℕ
-eight x = bitXor (up16 8 x) (up16 12 x)
+eight x = bitXor (up32 8 x) (up32 12 x) % 2 ^ 16
 
 abbrev sixteen : ℕ → ℕ
-sixteen x = bitXor (bitXor (bitXor (bitXor x (up16 4 x)) (up16 8 x)) (up16 11 x)) (up16 12 x)
+sixteen x = bitXor (bitXor (bitXor (bitXor x (up32 4 x)) (up32 8 x)) (up32 11 x)) (up32 12 x) % 2 ^ 16
 
 -- what they leave in the register: the polynomial's three terms
 abbrev added : ℕ → ℕ
@@ -74,14 +85,23 @@ added-linear p = plus (plus p (after (down 5) p)) (after (down 12) p)
 bits-linear : (n : ℕ) → Linear (crcBits n)
 bits-linear n = record { over = bits-xor n }
 
-pub eight-shifts : (x : ℕ) → x < 2 ^ 16 → bitXor (x / 2 ^ 8) (added (eight x)) ≡ crcBits 8 x
+eight-sum : (x : ℕ) → x < 2 ^ 16 → bitXor (x / 2 ^ 8) (added (eight x)) ≡ crcBits 8 x
 unfolding crcBits crcBit
-eight-shifts = by-powers _ (crcBits 8) (plus (down 8) (added-linear (plus (up 8 16) (up 12 16)))) (bits-linear 8) 16 refl
+eight-sum =
+    by-powers _ (crcBits 8) (plus (down 8) (added-linear (after (low 16) (plus (up 8 32) (up 12 32))))) (bits-linear 8) 16 refl
 
-pub sixteen-shifts : (x : ℕ) → x < 2 ^ 16 → added (sixteen x) ≡ crcBits 16 x
+sixteen-sum : (x : ℕ) → x < 2 ^ 16 → added (sixteen x) ≡ crcBits 16 x
 unfolding crcBits crcBit
-sixteen-shifts =
-    by-powers _ (crcBits 16) (added-linear (plus (plus (plus (plus itself (up 4 16)) (up 8 16)) (up 11 16)) (up 12 16))) (bits-linear 16) 16 refl
+sixteen-sum =
+    let sum = plus (plus (plus (plus itself (up 4 32)) (up 8 32)) (up 11 32)) (up 12 32) in
+    by-powers _ (crcBits 16) (added-linear (after (low 16) sum)) (bits-linear 16) 16 refl
+
+-- with that, what code computes is the bits' rule, and stays in the register
+pub eight-shifts : (x : ℕ) → x < 2 ^ 16 → (bitXor (x / 2 ^ 8) (added (eight x)) ≡ crcBits 8 x) × (bitXor (x / 2 ^ 8) (added (eight x)) < 2 ^ 16)
+eight-shifts x h = let e = eight-sum x h in (e, subst (λ (v : ℕ). v < 2 ^ 16) (sym e) (bits-lt 8 x h))
+
+pub sixteen-shifts : (x : ℕ) → x < 2 ^ 16 → (added (sixteen x) ≡ crcBits 16 x) × (added (sixteen x) < 2 ^ 16)
+sixteen-shifts x h = let e = sixteen-sum x h in (e, subst (λ (v : ℕ). v < 2 ^ 16) (sym e) (bits-lt 16 x h))
 
 -- ---- the register over the bytes of a list
 
@@ -102,17 +122,6 @@ run-more {r} {o} start s i e f h =
 -- and at the loop's end
 pub run-all : {r : ℕ} (start : ℕ) (s : List ℕ) (i : ℕ) → r ≡ crcRun start (take i s) → length s ≤ i → r ≡ crcRun start s
 run-all start s i e h = e ∙ ap (crcRun start) (take-all i s h)
-
--- ---- the register stays below 2 ^ 16
-
-bit-lt : (r : ℕ) → r < 2 ^ 16 → crcBit r < 2 ^ 16
-unfolding crcBit
-bit-lt r h = xor-lt 16 (r / 2) (r % 2 * polynomial) (omega arith) (omega arith)
-
-bits-lt : (n r : ℕ) → r < 2 ^ 16 → crcBits n r < 2 ^ 16
-unfolding crcBits
-bits-lt zero r h = h
-bits-lt (suc n) r h = bits-lt n (crcBit r) (bit-lt r h)
 
 pub byte-lt : (r b : ℕ) → r < 2 ^ 16 → b < 256 → crcByte r b < 2 ^ 16
 unfolding crcByte

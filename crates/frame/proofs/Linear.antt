@@ -30,13 +30,15 @@ after {f} {g} p q = record { over = λ a b. ap f (q .over a b) ∙ p .over (g a)
 pub down : (k : ℕ) → Linear (λ (x : ℕ). x / 2 ^ k)
 down k = record { over = λ a b. xor-shr a b k }
 
+pub low : (k : ℕ) → Linear (λ (x : ℕ). x % 2 ^ k)
+low k = record { over = λ a b. xor-mod a b k }
+
 -- up, in a register of w bits
 pub up : (k w : ℕ) → Linear (λ (x : ℕ). x * 2 ^ k % 2 ^ w)
 up k w =
     record {
       over = λ a b.
-          ap (λ (x : ℕ). x % 2 ^ w) (sym (simp add-zero at (xor-block k a b 0 0 (pow-pos k) (pow-pos k))))
-          ∙ xor-mod (a * 2 ^ k) (b * 2 ^ k) w;
+          ap (λ (x : ℕ). x % 2 ^ w) (sym (simp add-zero at (xor-block k a b 0 0 (pow-pos k) (pow-pos k)))) ∙ xor-mod (a * 2 ^ k) (b * 2 ^ k) w;
     }
 
 -- ---- by the powers of two

@@ -1,34 +1,37 @@
 // The check sum of ISO/IEC 13239, two bytes at a time, and frames that end in it.
 use crate::put::put_number;
 ghost use mathlib.Core.Path.{_≡_};
-ghost use Prim.Native.Nat.{_+_, _*_, _≤_};
+ghost use Prim.Native.Nat.{_+_, _*_, _^_, _≤_, _<_};
 ghost use lib.Bits.{bitXor};
 ghost use lib.ListN.{length, take};
 ghost use lib.Seq.{sets};
 ghost use Rattle.frame.specs.Number.{bytesOf};
 ghost use Rattle.frame.specs.CheckSum.{crcBits, crcByte, crcRun, crcWith, rightWith, crcOf, right};
 
-// One byte: eight bits leave the register. What they add is a sum of shifts of them, so no table is read.
-fn one_byte(r: u16, b: u8) -> u16
-    ensures { λ o. ⌜ o ≡ crcByte r b ⌝ }
+// One byte: eight bits leave the register, which stands in the low half. What they add is a sum of shifts of them, so no table is read.
+fn one_byte(r: u32, b: u8) -> u32
+    requires { ⌜ r < 2 ^ 16 ⌝ }
+    ensures { λ o. ⌜ (o ≡ crcByte r b) × (o < 2 ^ 16) ⌝ }
 {
-    let x = r ^ (b as u16);
-    let y = (x << 8) ^ (x << 12);
+    let x = r ^ (b as u32);
+    let y = ((x << 8) ^ (x << 12)) % 65536;
     (x >> 8) ^ (y ^ (y >> 5) ^ (y >> 12))
 }
 
 // Two bytes: sixteen bits leave the register, and what leaves is again a sum of shifts.
-fn two_bytes(r: u16, low: u8, high: u8) -> u16
-    ensures { λ o. ⌜ o ≡ crcBits 16 (bitXor r (low + high * 256)) ⌝ }
+fn two_bytes(r: u32, low: u8, high: u8) -> u32
+    requires { ⌜ r < 2 ^ 16 ⌝ }
+    ensures { λ o. ⌜ (o ≡ crcBits 16 (bitXor r (low + high * 256))) × (o < 2 ^ 16) ⌝ }
 {
-    let x = r ^ (low as u16 + high as u16 * 256);
-    let y = x ^ (x << 4) ^ (x << 8) ^ (x << 11) ^ (x << 12);
+    let x = r ^ (low as u32 + high as u32 * 256);
+    let y = (x ^ (x << 4) ^ (x << 8) ^ (x << 11) ^ (x << 12)) % 65536;
     y ^ (y >> 5) ^ (y >> 12)
 }
 
-// The register after the bytes of s.
-pub fn run(start: u16, s: &[u8]) -> u16
-    ensures { λ r. ⌜ r ≡ crcRun start (now (s .entry)) ⌝ }
+// By pairs of bytes, and an odd one at the end. The register is kept in 32 bits: processors are slower in sixteen.
+fn run_wide(start: u32, s: &[u8]) -> u32
+    requires { ⌜ start < 2 ^ 16 ⌝ }
+    ensures { λ r. ⌜ (r ≡ crcRun start (now (s .entry))) × (r < 2 ^ 16) ⌝ }
 {
     let pairs = s.len() / 2;
     let mut r = start;
@@ -41,6 +44,13 @@ pub fn run(start: u16, s: &[u8]) -> u16
         return r;
     }
     one_byte(r, s[s.len() - 1])
+}
+
+// The register after the bytes of s.
+pub fn run(start: u16, s: &[u8]) -> u16
+    ensures { λ r. ⌜ r ≡ crcRun start (now (s .entry)) ⌝ }
+{
+    run_wide(start as u32, s) as u16
 }
 
 // The check sum of s from a start, inverted or not.

@@ -9,7 +9,7 @@ use Rattle.frame.proofs.check_sum.one_byte.Tie as tie
 
 returns : tie.Need-returns
 unfolding crcByte
-returns c = eight-shifts _ (xor-lt 16 _ _ (c .fits .r .fits) (omega (arith, c .fits .b .fits)))
+returns c = eight-shifts _ (xor-lt 16 _ _ (c .pre) (omega (arith, c .fits .b .fits)))
 
 pub one-byte-spec : {M : Type 1} → statement M
 one-byte-spec = tie.close (tie.spec returns)
