@@ -35,8 +35,10 @@ static double seconds(void)
 
 /* ------------------------------------------------------------------ the calls */
 
-static void our_sum(void) { sink += sackbutflare_check_sum(rack, MOST); }
-static void ref_sum(void) { sink += ref_check_sum(rack, MOST); }
+static size_t sum_len;
+
+static void our_sum(void) { sink += sackbutflare_check_sum(rack, sum_len); }
+static void ref_sum(void) { sink += ref_check_sum(rack, sum_len); }
 
 /* The reference goes bit by bit, to be read easily; this is what C for speed would do. */
 static uint16_t table[256];
@@ -59,7 +61,7 @@ static uint16_t quick_sum(const uint8_t *bytes, size_t len)
     return (uint16_t)~r;
 }
 
-static void table_sum(void) { sink += quick_sum(rack, MOST); }
+static void table_sum(void) { sink += quick_sum(rack, sum_len); }
 
 static void our_event(void)
 {
@@ -151,6 +153,17 @@ static void row(const char *what, int n, void (*ours)(void), void (*theirs)(void
     printf("| %s | %d | %.0f | %.0f | %.2f |\n", what, n, a * 1e9, b * 1e9, a / b);
 }
 
+static void sums(size_t len)
+{
+    char what[80];
+    sum_len = len;
+    if (quick_sum(rack, len) != ref_check_sum(rack, len) || quick_sum(rack, len) != sackbutflare_check_sum(rack, len))
+        printf("check sums differ\n");
+    snprintf(what, sizeof what, "check sum of %zu bytes", len);
+    row(what, 0, our_sum, ref_sum);
+    row("the same against C with a table", 0, our_sum, table_sum);
+}
+
 static void events(int n, unsigned blocks, unsigned size)
 {
     static const uint8_t inventory[] = { 0x06, 0x01, 0x00, 0xCD, 0x09 }, info[] = { 0x02, 0x2B, 0x26, 0xA3 };
@@ -187,10 +200,10 @@ int main(void)
     printf("| call | tags | ns ours | ns C | ratio |\n|---|---|---|---|---|\n");
     make(1, 4, 4, 0);
     make_table();
-    if (quick_sum(rack, MOST) != ref_check_sum(rack, MOST) || quick_sum(rack, MOST) != sackbutflare_check_sum(rack, MOST))
-        printf("check sums differ\n");
-    row("check sum of 64 KiB", 0, our_sum, ref_sum);
-    row("the same against C with a table", 0, our_sum, table_sum);
+    sums(5);
+    sums(14);
+    sums(44);
+    sums(MOST);
     for (int n = 1; n <= 64; n *= 8)
         events(n, 4, 4);
     events(64, 28, 32);

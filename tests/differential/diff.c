@@ -27,7 +27,7 @@ static struct gen_event e;
 static uint8_t ours[GEN_RACK_ROOM], theirs[GEN_RACK_ROOM];
 static uint8_t out_1[GEN_ANSWER_ROOM + 1000], out_2[GEN_ANSWER_ROOM + 1000];
 static uint64_t seed_now;
-static unsigned long cases;
+static unsigned long cases, events, walks, commands;
 
 static void print_bytes(const char *name, const uint8_t *bytes, size_t len)
 {
@@ -63,6 +63,7 @@ static void compare_event(const uint8_t *rack, size_t len)
     memcpy(ours, rack, len);
     memcpy(theirs, rack, len);
     fresh_outputs();
+    events++;
     ref_event(ours, len, e.number, e.frame, e.frame_len, e.draws, e.draws_len, out_1, e.answer_len, &a);
     other_event(theirs, len, e.number, e.frame, e.frame_len, e.draws, e.draws_len, out_2, e.answer_len, &b);
     if (a.number != b.number || a.answered != b.answered || a.length != b.length)
@@ -86,6 +87,7 @@ static void compare_walk(const uint8_t *rack, size_t len)
     memcpy(ours, rack, len);
     memcpy(theirs, rack, len);
     fresh_outputs();
+    walks++;
     ref_walk(ours, len, has_afi, afi, out_1, list_len, &a);
     other_walk(theirs, len, has_afi, afi, out_2, list_len, &b);
     if (a.number != b.number || a.labels != b.labels || a.rounds != b.rounds)
@@ -136,6 +138,7 @@ static void compare_reader(void)
     gen_command(&g, &c);
     size_t len = gen_answer(&g, &c, frame);
     fresh_outputs();
+    commands++;
     memset(&x, 0x11, sizeof x);
     memset(&y, 0x22, sizeof y);
     ref_write_request(&c.command, c.uid, c.data, c.data_len, out_1, c.out_len, &a);
@@ -162,7 +165,7 @@ static void one_rack(uint64_t seed)
         apart("well-formed");
     if (seed % 20 == 8)
         compare_over_rack();
-    for (int i = 0; i < 60; i++) {
+    for (int left = seed % 200 == 50 ? 2000 : 60; left > 0; left--) {
         gen_event(&g, rack, gen_chance(&g, 80), &e);
         compare_event(rack, len);
         memcpy(rack, ours, len);
@@ -181,6 +184,6 @@ int main(int argc, char **argv)
     uint64_t racks = argc > 2 ? strtoull(argv[2], NULL, 10) : 300;
     for (uint64_t i = 0; i < racks; i++)
         one_rack(first + i);
-    printf("%lu cases, no difference\n", cases);
+    printf("%lu events, %lu walks, %lu commands and answers: no difference\n", events, walks, commands);
     return 0;
 }
