@@ -71,11 +71,11 @@ module _ (r : List ℕ) (small : Bytes r) (family : Family) (list : List ℕ) wh
     ok : Accepted r (length list)
     ok = accepted r (length list) (sym e ∙ h)
 
-    pub call-asks : (0 + length (explore (depth 0) r family 0 0 .found) ≤ length list) × ((explore (depth 0) r family 0 0 .rounds < 2 ^ 64) × (RackFine r × (0 < 2 ^ 0)))
+    pub call-asks : (0 + length (explore (depth 0) r family 0 0 .found) ≤ length list) × ((explore (depth 0) r family 0 0 .rounds < 2 ^ 64) × (RackFine r × ((0 ≤ 60) × (0 < 2 ^ 0))))
     call-asks =
         let p = done r (record { rack = ok .fine; bytes = small }) family (apart r (ok .single)) in
         let f = ok .fine .head .few in
-        (omega (arith, p .size, uids-few family r, ok .roomy), (omega (arith, p .bound, uids-few family r), (ok .fine, omega arith)))
+        (omega (arith, p .size, uids-few family r, ok .roomy), (omega (arith, p .bound, uids-few family r), (ok .fine, (omega arith, omega arith))))
 
     pub call-walked : {r₁ list₁ : List ℕ} {c k : ℕ} → r₁ ≡ explore (depth 0) r family 0 0 .rack → list₁ ≡ sets list 0 (explore (depth 0) r family 0 0 .found)
         → c ≡ 0 + length (explore (depth 0) r family 0 0 .found) → k ≡ explore (depth 0) r family 0 0 .rounds

@@ -7,8 +7,8 @@ use Prim.Native.Nat.{ℕ, zero, suc, _+_, _-_, _^_, _≤_, _<_}
 use native.Mathlib.Nat.{add-zero}
 use native.Mathlib.Numerals.{add-one}
 use native.Mathlib.Omega.{arith}
-use lib.ListN.{length, set, replicate, length-append}
-use lib.Seq.{sets, length-sets, set-at}
+use lib.ListN.{length, drop, getD, set, length-append, drop-of-length-le}
+use lib.Seq.{sets, length-sets, set-at, drop-cons}
 use Rattle.frame.specs.Choose.{gather}
 use Rattle.frame.proofs.Lists.{gather-suc}
 use Rattle.frame.proofs.Puts.{sets-append}
@@ -83,30 +83,31 @@ module _ {r : List ℕ} {family : Family} {m e : ℕ} {x : List ℕ} {a w : ℕ}
 
 -- ---- the loop
 
-pub record Turns (x l : List ℕ) (a₀ w₀ at₀ : ℕ) (rack list hits : List ℕ) (at a w s : ℕ) : Type 0 where
+pub record Turns (x l h : List ℕ) (a₀ w₀ at₀ : ℕ) (rack list hits : List ℕ) (at a w s : ℕ) : Type 0 where
   pub slots : s ≤ 16
   pub racked : rack ≡ endsFrom x s
   pub size : length rack ≡ length x
   pub count : a ≡ countIn x a₀ s
   pub inside : a ≡ 1 → w + 8 ≤ length rack
   pub uid : noted a w rack ≡ uidIn x a₀ w₀ s
-  pub hitted : hits ≡ gather s (λ i. countIn x a₀ i ∷ []) ++ replicate (16 - s) 0
+  pub sixteen : length h ≡ 16
+  pub hitted : hits ≡ gather s (λ i. countIn x a₀ i ∷ []) ++ drop s h
   pub listed : list ≡ sets l at₀ (gather s (uidIn x a₀ w₀))
   pub cursored : at ≡ at₀ + length (gather s (uidIn x a₀ w₀))
 
-pub turns-none : (x l : List ℕ) (a w at : ℕ) → (a ≡ 1 → w + 8 ≤ length x) → Turns x l a w at x l (replicate 16 0) at a w 0
+pub turns-none : (x l h : List ℕ) (a w at : ℕ) → (a ≡ 1 → w + 8 ≤ length x) → length h ≡ 16 → Turns x l h a w at x l h at a w 0
 unfolding endsFrom countIn uidIn gather
-turns-none x l a w at h = record
-    { slots = omega arith; racked = refl; size = refl; count = refl; inside = h; uid = refl; hitted = refl; listed = refl; cursored = sym (add-zero at) }
+turns-none x l h a w at i n = record
+    { slots = omega arith; racked = refl; size = refl; count = refl; inside = i; uid = refl; sixteen = n; hitted = refl; listed = refl; cursored = sym (add-zero at) }
 
-module _ {x l : List ℕ} {a₀ w₀ at₀ : ℕ} {rack list hits : List ℕ} {at a w s : ℕ} (k : Turns x l a₀ w₀ at₀ rack list hits at a w s) where
+module _ {x l h : List ℕ} {a₀ w₀ at₀ : ℕ} {rack list hits : List ℕ} {at a w s : ℕ} (k : Turns x l h a₀ w₀ at₀ rack list hits at a w s) where
   pub turns-list : length list ≡ length l
   turns-list = ap length (k .listed) ∙ length-sets l at₀ (gather s (uidIn x a₀ w₀))
 
   -- there is room for this slot's UID
   pub turns-room : s < 16 → at₀ + length (gather 16 (uidIn x a₀ w₀)) ≤ length l → at + length (noted a w rack) ≤ length list
-  turns-room h room =
-      let g = gather-within (suc s) 16 (uidIn x a₀ w₀) h in
+  turns-room b room =
+      let g = gather-within (suc s) 16 (uidIn x a₀ w₀) b in
       let q : length (gather (suc s) (uidIn x a₀ w₀)) ≡ length (gather s (uidIn x a₀ w₀)) + length (uidIn x a₀ w₀ s)
       = ap length (gather-suc s (uidIn x a₀ w₀)) ∙ length-append (gather s (uidIn x a₀ w₀)) _ in
       omega (arith, k .cursored, ap length (k .uid), turns-list)
@@ -114,43 +115,42 @@ module _ {x l : List ℕ} {a₀ w₀ at₀ : ℕ} {rack list hits : List ℕ} {a
   pub turns-again : s < 16 → {rack₁ list₁ : List ℕ} {at₁ a₁ w₁ : ℕ} → length rack₁ ≡ length rack
       → at₁ ≡ at + length (noted a w rack) → list₁ ≡ sets list at (noted a w rack)
       → HeardFrom rack EndOfFrame a₁ w₁ → rack₁ ≡ after rack EndOfFrame
-      → Turns x l a₀ w₀ at₀ rack₁ list₁ (set hits s a) at₁ a₁ w₁ (s + 1)
+      → Turns x l h a₀ w₀ at₀ rack₁ list₁ (set hits s a) at₁ a₁ w₁ (s + 1)
   unfolding endsFrom countIn uidIn gather
-  turns-again h {rack₁} {list₁} {at₁} {a₁} {w₁} z q p e n = rw add-one
+  turns-again b {rack₁} {list₁} {at₁} {a₁} {w₁} z q p e n = rw add-one
       (record {
-        slots = h;
+        slots = b;
         racked = n ∙ ap (λ (y : List ℕ). after y EndOfFrame) (k .racked);
         size = z ∙ k .size;
         count = e .count ∙ ap (λ (y : List ℕ). length (heard y EndOfFrame)) (k .racked);
         inside = λ o. rw n (e .inside o);
         uid = ap (noted a₁ w₁) n ∙ e .uid ∙ ap (λ (y : List ℕ). uidAlone (heard y EndOfFrame)) (k .racked);
+        sixteen = k .sixteen;
         hitted = set-hits;
         listed = p ∙ rw (k .uid, k .listed, k .cursored) (sym (sets-append (gather s (uidIn x a₀ w₀)) (uidIn x a₀ w₀ s) l at₀));
         cursored = rw (length-append (gather s (uidIn x a₀ w₀)) (uidIn x a₀ w₀ s)) (omega (arith, q, k .cursored, ap length (k .uid)));
       })
     where
-      zeros : (n : ℕ) → n < 16 → _≡_ {A = List ℕ} (replicate (16 - n) 0) (0 ∷ replicate (16 - suc n) 0)
-      zeros n b = let y : 16 - n ≡ suc (16 - suc n) = omega arith in ap (λ (j : ℕ). replicate {A = ℕ} j 0) y
-
-      set-hits : set hits s a ≡ (gather s (λ i. countIn x a₀ i ∷ []) ++ (countIn x a₀ s ∷ [])) ++ replicate (16 - suc s) 0
+      set-hits : set hits s a ≡ (gather s (λ i. countIn x a₀ i ∷ []) ++ (countIn x a₀ s ∷ [])) ++ drop (suc s) h
       set-hits =
-          ap (λ (y : List ℕ). set y s a) (k .hitted ∙ ap (λ (y : List ℕ). gather s (λ i. countIn x a₀ i ∷ []) ++ y) (zeros s h))
-          ∙ set-at (gather s (λ i. countIn x a₀ i ∷ [])) 0 (replicate (16 - suc s) 0) a s (gather-length s (countIn x a₀))
-          ∙ ap (λ (j : ℕ). gather s (λ i. countIn x a₀ i ∷ []) ++ (j ∷ replicate (16 - suc s) 0)) (k .count)
-          ∙ sym (append-assoc (gather s (λ i. countIn x a₀ i ∷ [])) (countIn x a₀ s ∷ []) (replicate (16 - suc s) 0))
+          ap (λ (y : List ℕ). set y s a) (k .hitted ∙ ap (λ (y : List ℕ). gather s (λ i. countIn x a₀ i ∷ []) ++ y) (drop-cons h s 0 (omega (arith, k .sixteen))))
+          ∙ set-at (gather s (λ i. countIn x a₀ i ∷ [])) (getD h s 0) (drop (suc s) h) a s (gather-length s (countIn x a₀))
+          ∙ ap (λ (j : ℕ). gather s (λ i. countIn x a₀ i ∷ []) ++ (j ∷ drop (suc s) h)) (k .count)
+          ∙ sym (append-assoc (gather s (λ i. countIn x a₀ i ∷ [])) (countIn x a₀ s ∷ []) (drop (suc s) h))
 
   pub turns-done : 16 ≤ s → {r : List ℕ} {family : Family} {m e : ℕ} → Opened r family m e x a₀ w₀
       → (rack ≡ round r family m e .rack)
       × ((list ≡ sets l at₀ (round r family m e .found))
       × ((at ≡ at₀ + length (round r family m e .found)) × (hits ≡ round r family m e .hits)))
-  turns-done h o =
+  turns-done b o =
       let e : s ≡ 16 = omega (arith, k .slots) in (
         k .racked ∙ ap (endsFrom x) e ∙ all-rack o,
         (
           k .listed ∙ ap (λ (n : ℕ). sets l at₀ (gather n (uidIn x a₀ w₀))) e ∙ ap (sets l at₀) (all-found o),
           (
             k .cursored ∙ ap (λ (n : ℕ). at₀ + length (gather n (uidIn x a₀ w₀))) e ∙ ap (λ (y : List ℕ). at₀ + length y) (all-found o),
-            k .hitted ∙ ap (λ (n : ℕ). gather n (λ i. countIn x a₀ i ∷ []) ++ replicate {A = ℕ} (16 - n) 0) e ∙ append-nil _ ∙ all-hits o,
+            k .hitted ∙ ap (λ (n : ℕ). gather n (λ i. countIn x a₀ i ∷ []) ++ drop n h) e ∙ ap (λ (y : List ℕ). gather 16 (λ i. countIn x a₀ i ∷ []) ++ y) (drop-of-length-le h {i = 16} (omega (arith, k .sixteen)))
+                ∙ append-nil _ ∙ all-hits o,
           ),
         ),
       )

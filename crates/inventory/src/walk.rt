@@ -9,7 +9,6 @@ ghost use mathlib.Core.Path.{_≡_};
 ghost use Prim.Native.Nat.{_+_, _*_, _≤_, _<_, _^_};
 ghost use lib.ListN.{length};
 ghost use lib.Seq.{sets};
-ghost use Rattle.rack.specs.File.{countOf};
 ghost use Rattle.rack.specs.Facts.{RackFine};
 ghost use Rattle.inventory.specs.Walk.{explore, depth, refusalOf, walkOf};
 ghost use Rattle.inventory.specs.Promise.{Promise};
@@ -27,28 +26,32 @@ struct Went {
     rounds: usize,
 }
 
-// Carries a mask through: a round, and then each slot with a collision. 64 less the mask length falls.
+// Carries a mask through: a round, and then each slot with a collision. 64 less the mask length falls; at 60 bits the round is the last.
 fn carry(rack: &mut [u8], list: &mut [u8], family: Family, m: u8, mask: u64, cursor: usize) -> Went
     requires room { ⌜ cursor + length (explore (depth m) (now rack) family m mask .found) ≤ length (now list) ⌝ }
     requires few { ⌜ explore (depth m) (now rack) family m mask .rounds < 2 ^ 64 ⌝ }
     requires rack { ⌜ RackFine (now rack) ⌝ }
-    requires mask { ⌜ mask < 2 ^ m ⌝ }
+    requires mask { ⌜ (m ≤ 60) × (mask < 2 ^ m) ⌝ }
     ensures rack { λ _. ⌜ now (rack .exit) ≡ explore (depth m) (now (rack .entry)) family m mask .rack ⌝ }
     ensures list { λ _. ⌜ now (list .exit) ≡ sets (now (list .entry)) cursor (explore (depth m) (now (rack .entry)) family m mask .found) ⌝ }
     ensures cursor { λ r. ⌜ r .cursor ≡ cursor + length (explore (depth m) (now (rack .entry)) family m mask .found) ⌝ }
     ensures rounds { λ r. ⌜ r .rounds ≡ explore (depth m) (now (rack .entry)) family m mask .rounds ⌝ }
     ensures good { λ _. ⌜ RackFine (now (rack .exit)) ⌝ }
 {
-    if 60 < m {
-        return Went { cursor, rounds: 0 };
+    let mut hits = [0u8; 16];
+    if 56 < m {
+        let end = play_round(rack, list, family, m, mask, cursor, &mut hits);
+        return Went {
+            cursor: end,
+            rounds: 1,
+        };
     }
-    let heard = play_round(rack, list, family, m, mask, cursor);
-    let hits = heard.hits;
-    let mut at = heard.cursor;
+    let mut at = play_round(rack, list, family, m, mask, cursor, &mut hits);
     let mut rounds: usize = 1;
-    let mut slot: u8 = 0;
+    let mut left: u8 = 16;
     let bits = m as u32;
-    while slot < 16 {
+    while 0 < left {
+        let slot = 16 - left;
         let i = slot as usize;
         if 1 < hits[i] {
             let next = longer_mask(mask, bits, slot);
@@ -56,7 +59,7 @@ fn carry(rack: &mut [u8], list: &mut [u8], family: Family, m: u8, mask: u64, cur
             at = went.cursor;
             rounds += went.rounds;
         }
-        slot += 1;
+        left -= 1;
     }
     Went { cursor: at, rounds }
 }
