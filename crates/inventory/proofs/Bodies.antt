@@ -18,11 +18,13 @@ use Rattle.label.specs.declared.request.Family.{Family}
 use Rattle.label.specs.declared.request.Call.{Call}
 use Rattle.label.specs.declared.request.Call.the-variants.{Inventory, EndOfFrame}
 use Rattle.label.specs.declared.step.Answer.the-variants.{Silent, Found}
+use Rattle.label.proofs.Fine.{fine-rules}
+use Rattle.label.proofs.Slots.{first, step, last, said-first, said-step, during-fine, during-bytes, during-uid, during-length, clear-fine, clear-bytes, clear-uid, clear-length, clear-clear, on-clear}
 use Rattle.chip.specs.declared.request.Order.the-variants.{Ignored}
 use Rattle.rack.specs.File.{bodyRules}
 use Rattle.rack.specs.Event.{Signal, nextBody, saidBy, speaks, frameOf, answerBody}
 use Rattle.inventory.specs.Walk.{uidAt, clearBody}
-use Rattle.inventory.proofs.Below.{first, step, last, said-first, said-step, during-fine, during-bytes, during-uid, during-length, clear-fine, clear-bytes, clear-uid, clear-length, clear-clear, on-clear, fine-rules, ignored, ignored-said}
+use Rattle.inventory.proofs.Says.{ignored, ignored-said}
 
 -- a tag of a well-formed rack
 pub record TagOk (k : ℕ) (b : List ℕ) : Type 0 where
@@ -57,7 +59,7 @@ module _ {k : ℕ} {b : List ℕ} (ok : TagOk k b) (family : Family) (m e : ℕ)
   unfolding nextBody duringBody
   body-first bytes d =
       ⊎-elim
-      (λ (q : k ≡ 1). rw q (first family m e b (ok .small) (ok .label q) bytes))
+      (λ (q : k ≡ 1). rw q (first family m e bytes b (ok .small) (ok .label q)))
       (λ (q : k ≡ 2). rw q (ignored d b))
       (ok .kind)
 
@@ -65,7 +67,7 @@ module _ {k : ℕ} {b : List ℕ} (ok : TagOk k b) (family : Family) (m e : ℕ)
   unfolding nextBody duringBody
   body-step bytes d s short low h =
       ⊎-elim
-      (λ (q : k ≡ 1). rw q (step family m e b (ok .small) (ok .label q) s bytes short low h))
+      (λ (q : k ≡ 1). rw q (step family m e b (ok .label q) short low s bytes h))
       (λ (q : k ≡ 2). rw q (ignored d b))
       (ok .kind)
 
@@ -73,7 +75,7 @@ module _ {k : ℕ} {b : List ℕ} (ok : TagOk k b) (family : Family) (m e : ℕ)
   unfolding nextBody duringBody clearBody
   body-last bytes d short low =
       ⊎-elim
-      (λ (q : k ≡ 1). rw q (last family m e b (ok .small) (ok .label q) bytes short low))
+      (λ (q : k ≡ 1). rw q (last family m e b (ok .label q) short low bytes))
       (λ (q : k ≡ 2). rw q (ignored d b))
       (ok .kind)
 
@@ -81,7 +83,7 @@ module _ {k : ℕ} {b : List ℕ} (ok : TagOk k b) (family : Family) (m e : ℕ)
   unfolding answerBody saidBy speaks frameOf
   answer-first bytes d =
       ⊎-elim
-      (λ (q : k ≡ 1). rw (q, said-first family m e b (ok .small) (ok .label q) (length bytes)) (said (on family b && endsInSlot (part 0 8 b) e m 0) b))
+      (λ (q : k ≡ 1). rw (q, said-first family m e (length bytes) b) (said (on family b && endsInSlot (part 0 8 b) e m 0) b))
       (λ (q : k ≡ 2). rw (q, ignored-said d b))
       (ok .kind)
 
@@ -91,7 +93,7 @@ module _ {k : ℕ} {b : List ℕ} (ok : TagOk k b) (family : Family) (m e : ℕ)
   answer-step bytes d s short low h =
       ⊎-elim
       (λ (q : k ≡ 1).
-      rw (q, said-step family m e b (ok .small) (ok .label q) s (length bytes) short low h)
+      rw (q, said-step family m e b (ok .label q) short low s (length bytes) h)
       (said (on family b && endsInSlot (part 0 8 b) e m (suc s)) (during family m e s b)))
       (λ (q : k ≡ 2). rw (q, ignored-said d b))
       (ok .kind)
@@ -100,7 +102,7 @@ module _ {k : ℕ} {b : List ℕ} (ok : TagOk k b) (family : Family) (m e : ℕ)
   unfolding duringBody
   during-size s =
       ⊎-elim
-      (λ (q : k ≡ 1). rw q (during-length family m e b (ok .small) (ok .label q) s))
+      (λ (q : k ≡ 1). rw q (during-length family m e s b))
       (λ (q : k ≡ 2). rw q refl)
       (ok .kind)
 
@@ -108,7 +110,7 @@ module _ {k : ℕ} {b : List ℕ} (ok : TagOk k b) (family : Family) (m e : ℕ)
   unfolding duringBody
   during-part s =
       ⊎-elim
-      (λ (q : k ≡ 1). rw q (during-uid family m e b (ok .small) (ok .label q) s))
+      (λ (q : k ≡ 1). rw q (during-uid family m e s b))
       (λ (q : k ≡ 2). rw q refl)
       (ok .kind)
 
@@ -117,8 +119,7 @@ module _ {k : ℕ} {b : List ℕ} (ok : TagOk k b) (family : Family) (m e : ℕ)
   during-rules s short low h =
       ⊎-elim
       (λ (q : k ≡ 1).
-      let f = ok .label q in
-      rw (q, fine-rules (during family m e s b) (during-bytes family m e b (ok .small) f s short h) (during-fine family m e b (ok .small) f s short low h)) refl)
+      rw (q, fine-rules (during family m e s b) (during-bytes family m e s b (ok .small) short h) (during-fine family m e s b (ok .small) (ok .label q) short low h)) refl)
       (λ (q : k ≡ 2). let z = ok .rules in rw q (rw q at z))
       (ok .kind)
 
@@ -127,17 +128,17 @@ module _ {k : ℕ} {b : List ℕ} (ok : TagOk k b) (family : Family) (m e : ℕ)
 module _ {k : ℕ} {b : List ℕ} (ok : TagOk k b) where
   pub clear-size : length (clearBody k b) ≡ length b
   unfolding clearBody
-  clear-size = ⊎-elim (λ (q : k ≡ 1). rw q (clear-length b (ok .small) (ok .label q))) (λ (q : k ≡ 2). rw q refl) (ok .kind)
+  clear-size = ⊎-elim (λ (q : k ≡ 1). rw q (clear-length b)) (λ (q : k ≡ 2). rw q refl) (ok .kind)
 
   pub clear-twice : clearBody k (clearBody k b) ≡ clearBody k b
   unfolding clearBody
-  clear-twice = ⊎-elim (λ (q : k ≡ 1). rw q (clear-clear b (ok .small) (ok .label q))) (λ (q : k ≡ 2). rw q refl) (ok .kind)
+  clear-twice = ⊎-elim (λ (q : k ≡ 1). rw q (clear-clear b)) (λ (q : k ≡ 2). rw q refl) (ok .kind)
 
   pub clear-uidAt : (family : Family) → uidAt family k (clearBody k b) ≡ uidAt family k b
   unfolding clearBody uidAt
   clear-uidAt family =
       ⊎-elim
-      (λ (q : k ≡ 1). rw (q, on-clear b (ok .small) (ok .label q) family, clear-uid b (ok .small) (ok .label q)) refl)
+      (λ (q : k ≡ 1). rw (q, on-clear family b, clear-uid b) refl)
       (λ (q : k ≡ 2). rw q refl)
       (ok .kind)
 
@@ -147,7 +148,7 @@ module _ {k : ℕ} {b : List ℕ} (ok : TagOk k b) where
       ⊎-elim
       (λ (q : k ≡ 1).
       let f = clear-fine b (ok .small) (ok .label q) in
-      let y = clear-bytes b (ok .small) (ok .label q) in
+      let y = clear-bytes b (ok .small) in
       rw q (record { kind = rw q at (ok .kind); small = y; label = λ z. f; rules = rw (fine-rules (clear b) y f) refl }))
       (λ (q : k ≡ 2). let z = ok in rw q (rw q at z))
       (ok .kind)

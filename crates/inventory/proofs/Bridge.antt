@@ -16,7 +16,8 @@ use Rattle.inventory.specs.Promise.{flat}
 use Rattle.inventory.proofs.Sums.{only, sum-ext, sum-zero}
 use Rattle.inventory.proofs.Trie.{members, mask, mask-lt}
 use Rattle.inventory.proofs.Walks.{ifs, alone, rounds, listing}
-use Rattle.inventory.proofs.Lists.{gather-at, gather-ext}
+use Rattle.rack.proofs.Places.{gather-ext}
+use Rattle.inventory.proofs.Lists.{gather-at}
 use Rattle.inventory.proofs.Flat.{flat-append, flat-none, flat-gather}
 use Rattle.inventory.proofs.Events.{Fine}
 use Rattle.inventory.proofs.Rounds.{left-rack}

@@ -17,7 +17,7 @@ use Rattle.inventory.specs.declared.walk.Walked.{Walked}
 use Rattle.inventory.specs.Walk.{explore, depth, twins, refusalOf, walkOf}
 use Rattle.inventory.specs.Promise.{Promise}
 use Rattle.inventory.proofs.Left.{uids-few}
-use Rattle.inventory.proofs.Below.{rack-fine}
+use Rattle.rack.proofs.Verdicts.{rack-fine}
 use Rattle.inventory.proofs.Same.{apart}
 use Rattle.inventory.proofs.Promise.{Accepted, accepted, done, walk-carried, walk-refused, replies}
 

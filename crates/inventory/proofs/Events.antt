@@ -6,14 +6,13 @@ use mathlib.Core.List.{List, []}
 use mathlib.Core.Logic.{_⊎_, inl, inr}
 use Prim.Native.Nat.{ℕ, _+_, _^_, _≤_, _<_}
 use native.Mathlib.Omega.{arith}
-use borrow.Author.Tests.{eq-eqb, eqb-true, leb-true}
+use borrow.Author.Tests.{eq-eqb, eqb-true}
 use lib.Dec.{eqb, ltb, leb}
 use lib.ListN.{length, getD, replicate, length-replicate}
 use Rattle.frame.specs.Choose.{if_then_else_, gather}
 use Rattle.frame.specs.Number.{Bytes}
 use Rattle.frame.specs.Judge.{fine, bad}
 use Rattle.frame.specs.declared.verdict.Verdict.{Verdict}
-use Rattle.frame.proofs.Bools.{and-both}
 use Rattle.frame.proofs.Numbers.{bytes-part}
 use Rattle.frame.proofs.Verdicts.{if-fine, not-none}
 use Rattle.label.specs.Request as labels
@@ -28,9 +27,13 @@ use Rattle.rack.specs.Facts.{RackFine}
 use Rattle.rack.specs.Event.{Signal, Outcome, signalOf, next, answer, nextRack, answers, played, refusalOf, eventOf}
 use Rattle.inventory.specs.Walk.{request, sent}
 use Rattle.inventory.specs.Sent.{signal, draws}
-use Rattle.inventory.proofs.Lists.{gather-ext}
+use Rattle.label.proofs.Fine.{rules-fine}
+use Rattle.label.proofs.Back.{sixteen-back, sixteen-afi-back}
+use Rattle.rack.proofs.Places.{gather-ext}
 use Rattle.rack.proofs.Rebuilt.{rebuilt-ext}
-use Rattle.inventory.proofs.Below.{back-any, back-only, rules-fine, fine-rack}
+use Rattle.rack.proofs.Verdicts.{fine-rack}
+use Rattle.rack.proofs.Tags.{fits-chip, fits-label}
+use Rattle.rack.proofs.Closed as closed
 use Rattle.inventory.proofs.Bodies.{TagOk, signalWith, duringBody, called, spoken, body-first, answer-first}
 
 -- a rack of bytes that keeps its rules
@@ -61,12 +64,11 @@ kind-of r ok i h =
     two-kinds (kindAt r i) (if-fine (not (eqb (kindAt r i) 1 || eqb (kindAt r i) 2)) 12 (entryAt i) none (not-none 11) k .0)
 
 fits-long : (k len : ℕ) → lengthFits k len ≡ true → 34 ≤ len
-unfolding lengthFits
-fits-long k len = go (eqb k 2)
+fits-long k len h = go (eqb k 2) refl
   where
-    go : (q : Bool) → (if q then eqb len 80 else leb 34 len && leb len 8480) ≡ true → 34 ≤ len
-    go true h = omega (arith, eqb-true len 80 h)
-    go false h = leb-true 34 len (and-both (leb 34 len) _ h .0)
+    go : (q : Bool) → eqb k 2 ≡ q → 34 ≤ len
+    go true t = omega (arith, fits-chip k len t h)
+    go false t = fits-label k len t h .0
 
 -- a body holds a label's first bytes
 pub tag-long : (r : List ℕ) → RackFine r → (i : ℕ) → i < countOf r → 34 ≤ lengthAt r i
@@ -78,6 +80,12 @@ tag r ok i h =
     let small = bytes-part (startOf r i) (lengthAt r i) r (ok .bytes) in
     let rules = ok .rack .body i h .rules in
     record { kind = kind-of r (ok .rack) i h; small = small; label = λ q. rules-fine (bodyAt r i) small (rw q at rules); rules = rules }
+
+-- other bodies of the same lengths that keep their rules
+pub rebuilt-fine : (r : List ℕ) (g : ℕ → List ℕ) → RackFine r
+    → ((i : ℕ) → i < countOf r → (length (g i) ≡ lengthAt r i) × (bodyRules (kindAt r i) (g i) .number ≡ 0)) → RackFine (rebuilt r g)
+rebuilt-fine r g ok h =
+    closed.rebuilt-fine r g ok (λ i b. h i b .0) (λ i b. record { fits = rw (h i b .0) (ok .entry i b .fits); rules = h i b .1 })
 
 -- ---- no refusal applies
 
@@ -101,8 +109,8 @@ ends r ok = plays r ok 4 refl []
 
 reads : (family : Family) (m e : ℕ) → m ≤ 60 → e < 2 ^ m → labels.decode (request family m e) ≡ bare (Inventory family true m e)
 unfolding request
-reads Any m e short low = back-any m e short low
-reads (Only afi) m e short low = back-only afi m e short low
+reads Any m e short low = sixteen-back m e low short
+reads (Only afi) m e short low = sixteen-afi-back m e low afi short
 
 signal-reads : (family : Family) (m e : ℕ) → m ≤ 60 → e < 2 ^ m
     → signalOf 3 (request family m e) ≡ signalWith (labels.dataOf (request family m e)) (Inventory family true m e)

@@ -1,53 +1,30 @@
 -- The rack that a round leaves: well-formed, with the same UIDs, and left as it is by the next round; and UIDs have 64 bits. Idea: `cleared` is `rebuilt` of cleared bodies. Assumes nothing.
 use mathlib.Core.Path.{_≡_, ap, _∙_}
 use mathlib.Core.Bool.{Bool, true, false, _&&_, _||_}
-use mathlib.Core.List.{List, [], _∷_, _++_}
-use Prim.Native.Nat.{ℕ, zero, suc, _+_, _≤_, _<_}
+use mathlib.Core.List.{List, [], _∷_}
+use Prim.Native.Nat.{ℕ, zero, suc, _^_, _≤_, _<_}
 use native.Mathlib.Omega.{arith}
 use lib.Dec.{eqb}
 use lib.ListN.{length, getD}
 use Rattle.frame.specs.Choose.{if_then_else_, gather}
 use Rattle.frame.specs.Number.{num, part, Bytes}
-use Rattle.frame.proofs.Numbers.{bytes-take, bytes-append}
 use Rattle.label.specs.Step.{passes}
 use Rattle.label.specs.Slots.{on}
 use Rattle.label.specs.declared.request.Family.{Family}
 use Rattle.label.specs.declared.request.Family.the-variants.{Any}
-use Rattle.rack.specs.File.{countOf, entryAt, kindAt, lengthAt, bodyAt, contents, rebuilt}
+use Rattle.rack.specs.File.{countOf, kindAt, lengthAt, bodyAt, rebuilt}
 use Rattle.inventory.specs.Endings.{count}
 use Rattle.inventory.specs.Walk.{uidAt, uidsTo, uids, clearBody, cleared}
-use Rattle.inventory.proofs.Lists.{gather-ext, gather-few}
+use Rattle.rack.proofs.Places.{gather-ext}
+use Rattle.inventory.proofs.Lists.{gather-few, each-gather}
 use Rattle.inventory.proofs.Twice.{Distinct}
-use Rattle.inventory.proofs.Walks.{Below}
-use Rattle.rack.proofs.Rebuilt.{body-long, rebuilt-ext, rebuilt-count, rebuilt-kind, rebuilt-body, rebuilt-again}
-use Rattle.inventory.proofs.Below.{rebuilt-fine}
+use Rattle.inventory.proofs.Walks.{Below, count-append}
+use Rattle.rack.proofs.Rebuilt.{body-long, rebuilt-bytes, rebuilt-ext, rebuilt-count, rebuilt-kind, rebuilt-body, rebuilt-again}
 use Rattle.inventory.proofs.Bodies.{clear-size, clear-twice, clear-uidAt, clear-ok}
-use Rattle.inventory.proofs.Events.{Fine, tag, tag-long}
+use Rattle.inventory.proofs.Events.{Fine, tag, tag-long, rebuilt-fine}
 use Rattle.inventory.proofs.Uids.{uid-lt}
 
 -- ---- what is gathered
-
-bytes-gather : (n : ℕ) (g : ℕ → List ℕ) → ((i : ℕ) → i < n → Bytes (g i)) → Bytes (gather n g)
-unfolding gather
-bytes-gather zero g h j = omega arith
-bytes-gather (suc n) g h j = bytes-append (gather n g) (g n) (bytes-gather n g (λ i b. h i (omega arith))) (h n (omega arith)) j
-
-rebuilt-bytes : (r : List ℕ) (g : ℕ → List ℕ) → Bytes r → ((i : ℕ) → i < countOf r → Bytes (g i)) → Bytes (rebuilt r g)
-unfolding rebuilt
-rebuilt-bytes r g small h = bytes-append (contents r) (gather (countOf r) g) (bytes-take (entryAt (countOf r)) r small) (bytes-gather (countOf r) g h)
-
-below-append : (w : ℕ) (a b : List ℕ) → Below w a → Below w b → Below w (a ++ b)
-below-append w [] b p q = q
-below-append w (x ∷ a) b p q = (p .0, below-append w a b (p .1) q)
-
-below-gather : (w n : ℕ) (g : ℕ → List ℕ) → ((i : ℕ) → i < n → Below w (g i)) → Below w (gather n g)
-unfolding gather
-below-gather w zero g h = tt
-below-gather w (suc n) g h = below-append w (gather n g) (g n) (below-gather w n g (λ i b. h i (omega arith))) (h n (omega arith))
-
-pub count-append : (v : ℕ) (a b : List ℕ) → count v (a ++ b) ≡ count v a + count v b
-count-append v [] b = omega arith
-count-append v (x ∷ a) b = omega (arith, count-append v a b)
 
 count-gather : (v n : ℕ) (f g : ℕ → List ℕ) → ((i : ℕ) → count v (f i) ≤ count v (g i)) → count v (gather n f) ≤ count v (gather n g)
 unfolding gather
@@ -109,7 +86,7 @@ module _ (r : List ℕ) (fine : Fine r) where
   pub uids-below : (family : Family) → Below 64 (uids family r)
   unfolding uidsTo
   uids-below family =
-      below-gather 64 (countOf r) _ (λ i h.
+      each-gather (λ u. u < 2 ^ 64) (countOf r) _ (λ i h.
       uidAt-below family (kindAt r i) (bodyAt r i) (tag r fine i h .small) (omega (arith, body-long r (fine .rack .whole) i h, tag-long r (fine .rack) i h)))
 
 -- ---- a family's labels are some of all

@@ -5,9 +5,8 @@ pub mod Trie
 pub mod Walks
 pub mod Lists
 pub mod Flat
-pub mod Below
 pub mod Bodies
-pub mod Kept
+pub mod Says
 pub mod Events
 pub mod Rounds
 pub mod Uids

@@ -1,20 +1,14 @@
--- Laws of lists: what is gathered over indices, and parts. Idea: each law of a gathered list is a law of one index. Assumes nothing.
+-- Laws of what is gathered over indices. Idea: each law of a gathered list is a law of one index. Assumes nothing.
 use mathlib.Core.Path.{_≡_, refl, subst, _∙_}
 use mathlib.Core.List.{List, [], _∷_, _++_, map}
 use Prim.Native.Nat.{ℕ, zero, suc, _+_, _-_, _≤_, _<_}
 use mathlib.Core.Logic.{⊎-elim}
 use native.Mathlib.Nat.{add-zero, add-suc, eq-or-lt-of-le}
 use native.Mathlib.Omega.{arith}
-use lib.ListN.{length, getD, take, drop, length-append, length-drop, List·getD-append}
-use lib.Seq.{drop-at, drop-append-le, take-append-le, getD-at}
+use lib.ListN.{length, getD, length-append, List·getD-append}
+use lib.Seq.{getD-at}
 use Rattle.frame.specs.Choose.{gather}
-use Rattle.frame.specs.Number.{part}
 use Rattle.frame.proofs.Lists.{gather-suc}
-
-pub gather-ext : {A : Type 0} (n : ℕ) (f g : ℕ → List A) → ((i : ℕ) → i < n → f i ≡ g i) → gather n f ≡ gather n g
-unfolding gather
-gather-ext zero f g h = refl
-gather-ext (suc n) f g h = rw (gather-ext n f g (λ i b. h i (omega arith)), h n (omega arith))
 
 -- one value a place
 pub gather-length : (n : ℕ) (f : ℕ → ℕ) → length (gather n (λ i. f i ∷ [])) ≡ n
@@ -71,13 +65,3 @@ pub map-gather : {A B : Type 0} (f : A → B) (n : ℕ) (g : ℕ → List A) →
 unfolding gather
 map-gather f zero g = refl
 map-gather f (suc n) g = map-append f (gather n g) (g n) ∙ rw (map-gather f n g)
-
--- ---- parts
-
-pub part-at : (p q : List ℕ) (at len : ℕ) → length p ≡ at → part at len (p ++ q) ≡ take len q
-part-at p q at len h = rw (drop-at p q at h)
-
--- a part that lies in the front
-pub part-in : (p q : List ℕ) (at len : ℕ) → at + len ≤ length p → part at len (p ++ q) ≡ part at len p
-part-in p q at len h =
-    rw (drop-append-le at p q (omega arith)) (take-append-le len (drop at p) q (omega (arith, length-drop at p)))

@@ -32,10 +32,6 @@ use Rattle.inventory.proofs.Promise.{walk-carried, promise}
 abbrev pub roundsOf : List ℕ → ℕ
 roundsOf us = 1 + sumTo 15 (λ i. length (shared (4 * suc i) us))
 
--- the three labels of the paper
-pub example-paper : roundsOf (0xE000000000000011 ∷ 0xE000000000000012 ∷ 0xE000000000000021 ∷ []) ≡ 2
-example-paper = refl
-
 -- (k) for any two
 one-shared : (m u v : ℕ) → ending m u ≡ ending m v → length (shared m (u ∷ v ∷ [])) ≡ 1
 one-shared m u v e = rw e (ap (λ (ys : List ℕ). length (keep many ys)) values ∙ ap (λ (n : ℕ). length (keepIf (leb 2 n) x [])) twice)

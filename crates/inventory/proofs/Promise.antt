@@ -22,7 +22,7 @@ use Rattle.inventory.specs.Promise.{flat, Promise}
 use Rattle.inventory.proofs.Twice.{Distinct}
 use Rattle.inventory.proofs.Walks.{listing, lists-each, as-long, rounds-16, rounds-16-bound}
 use Rattle.inventory.proofs.Flat.{flat-length}
-use Rattle.inventory.proofs.Below.{rack-fine}
+use Rattle.rack.proofs.Verdicts.{rack-fine}
 use Rattle.inventory.proofs.Events.{Fine}
 use Rattle.inventory.proofs.Left.{uids-below, some-distinct}
 use Rattle.inventory.proofs.Bridge.{told, start-good, cleared-good}

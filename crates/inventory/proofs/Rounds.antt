@@ -11,31 +11,16 @@ use Rattle.frame.specs.Number.{part}
 use Rattle.label.specs.declared.request.Family.{Family}
 use Rattle.label.specs.declared.request.Call.{Call}
 use Rattle.label.specs.declared.request.Call.the-variants.{Inventory, EndOfFrame}
-use Rattle.rack.specs.File.{countOf, kindAt, lengthAt, startOf, bodyAt, rebuilt}
+use Rattle.rack.specs.File.{countOf, kindAt, lengthAt, bodyAt, rebuilt}
 use Rattle.rack.specs.Facts.{RackFine}
-use Rattle.rack.specs.Event.{Signal, Outcome, nextBody, answerBody, next, answer, nextRack, answers, opened}
+use Rattle.rack.specs.Event.{Outcome, opened}
 use Rattle.inventory.specs.Walk.{slotOutcome, hits, cleared}
 use Rattle.inventory.specs.Sent.{signal, draws, after, heard}
-use Rattle.inventory.proofs.Lists.{gather-ext}
-use Rattle.rack.proofs.Rebuilt.{body-long, rebuilt-ext, rebuilt-count, rebuilt-kind, rebuilt-body, rebuilt-again}
-use Rattle.inventory.proofs.Below.{rebuilt-fine}
+use Rattle.rack.proofs.Places.{gather-ext}
+use Rattle.rack.proofs.Rebuilt.{body-long, rebuilt-ext}
+use Rattle.rack.proofs.Closed.{next-rebuilt, answers-rebuilt}
 use Rattle.inventory.proofs.Bodies.{duringBody, called, spoken, body-step, body-last, answer-step, during-size, during-part, during-rules}
-use Rattle.inventory.proofs.Events.{Fine, tag, told, ends, opens, next-first, answers-first}
-
--- ---- an event on a rack of which the bodies are known
-
-module _ (r : List ℕ) (whole : startOf r (countOf r) ≡ length r) (g : ℕ → List ℕ) (sized : (i : ℕ) → i < countOf r → length (g i) ≡ lengthAt r i) (c : Signal) (ds : List ℕ) where
-  next-rebuilt : nextRack (rebuilt r g) c ds ≡ rebuilt r (λ i. nextBody (kindAt r i) c (getD ds i 0) (g i))
-  unfolding nextRack next
-  next-rebuilt =
-      rebuilt-again r whole g sized (next (rebuilt r g) c ds)
-      ∙ rebuilt-ext r _ _ (λ i h. rw (rebuilt-kind r whole g sized i h, rebuilt-body r whole g sized i h))
-
-  answers-rebuilt : answers (rebuilt r g) c ds ≡ gather (countOf r) (λ i. answerBody (kindAt r i) c (getD ds i 0) (g i))
-  unfolding answers answer
-  answers-rebuilt =
-      ap (λ (n : ℕ). gather n (answer (rebuilt r g) c ds)) (rebuilt-count r whole g sized)
-      ∙ gather-ext (countOf r) _ _ (λ i h. rw (rebuilt-kind r whole g sized i h, rebuilt-body r whole g sized i h))
+use Rattle.inventory.proofs.Events.{Fine, tag, rebuilt-fine, told, ends, opens, next-first, answers-first}
 
 -- ---- the slots, as they are sent
 

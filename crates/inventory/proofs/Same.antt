@@ -23,7 +23,7 @@ use Rattle.inventory.specs.Walk.{uidAt, uidsTo, uids, anyOf, among, twin
 use Rattle.inventory.proofs.Twice.{Distinct}
 use Rattle.rack.proofs.Places.{start-none, start-suc}
 use Rattle.inventory.proofs.Events.{tag-long}
-use Rattle.inventory.proofs.Left.{count-append}
+use Rattle.inventory.proofs.Walks.{count-append}
 
 -- ---- one tag
 

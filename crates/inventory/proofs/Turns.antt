@@ -3,7 +3,7 @@
 use mathlib.Core.Path.{_≡_, refl, ap, sym, _∙_}
 use mathlib.Core.Bool.{true}
 use mathlib.Core.List.{List, [], _∷_, _++_, append-assoc, append-nil}
-use Prim.Native.Nat.{ℕ, zero, suc, _+_, _-_, _^_, _≤_, _<_}
+use Prim.Native.Nat.{ℕ, zero, suc, _+_, _^_, _≤_, _<_}
 use native.Mathlib.Nat.{add-zero}
 use native.Mathlib.Numerals.{add-one}
 use native.Mathlib.Omega.{arith}
@@ -17,7 +17,8 @@ use Rattle.label.specs.declared.request.Call.the-variants.{Inventory, EndOfFram
 use Rattle.rack.specs.Facts.{RackFine}
 use Rattle.inventory.specs.Walk.{slotOutcome, hits, alone, round}
 use Rattle.inventory.specs.Sent.{after, heard, uidAlone, noted, HeardFrom}
-use Rattle.inventory.proofs.Lists.{gather-ext, gather-length, gather-within}
+use Rattle.rack.proofs.Places.{gather-ext}
+use Rattle.inventory.proofs.Lists.{gather-length, gather-within}
 use Rattle.inventory.proofs.Events.{Fine}
 use Rattle.inventory.proofs.Rounds.{slot-fine, rack-zero, rack-suc, frames, frames-zero, frames-suc, heard-in}
 use Rattle.inventory.proofs.Uids.{heard-uid}

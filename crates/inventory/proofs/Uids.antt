@@ -26,11 +26,12 @@ use Rattle.inventory.specs.Walk as walk
 use Rattle.inventory.specs.Walk.{slotOutcome, hits, uidAt, uidsTo, uids}
 use Rattle.inventory.specs.Promise.{flat}
 use Rattle.inventory.specs.Sent.{uidAlone}
-use Rattle.inventory.proofs.Lists.{gather-ext, map-gather, Each, each-gather, part-in}
+use Rattle.label.proofs.Slots.{found-frame}
+use Rattle.rack.proofs.Places.{gather-ext, part-in}
+use Rattle.inventory.proofs.Lists.{map-gather, Each, each-gather}
 use Rattle.inventory.proofs.Flat.{flat-one, flat-none}
 use Rattle.inventory.proofs.Trie.{members, mask}
 use Rattle.inventory.proofs.Walks.{alone}
-use Rattle.inventory.proofs.Below.{found-frame}
 use Rattle.inventory.proofs.Bodies.{called, spoken}
 use Rattle.inventory.proofs.Events.{Fine, tag, tag-long}
 use Rattle.rack.proofs.Rebuilt.{body-long}

@@ -12,6 +12,7 @@ use lib.Pow.{pow-pos, pow-mono}
 use borrow.Author.Tests.{eq-eqb, eqb-true, le-leb}
 use Rattle.frame.specs.Choose.{gather}
 use Rattle.inventory.specs.Endings.{one, count, keepIf, sumTo, ending, shared}
+use Rattle.inventory.proofs.Lists.{Each}
 use Rattle.inventory.proofs.Sums.{only, group, apart, sum-ext, sum-add, sum-front}
 use Rattle.inventory.proofs.Twice.{Distinct, twice-half, shared-twice, same-values}
 use Rattle.inventory.proofs.Trie.{slotOf, members, mask, split, mask-lt, sh, levels, nodes, nodes-levels}
@@ -28,7 +29,7 @@ alone [] = []
 alone (x ∷ []) = x ∷ []
 alone (x ∷ y ∷ xs) = []
 
-count-append : (v : ℕ) (a b : List ℕ) → count v (a ++ b) ≡ count v a + count v b
+pub count-append : (v : ℕ) (a b : List ℕ) → count v (a ++ b) ≡ count v a + count v b
 count-append v [] b = omega arith
 count-append v (x ∷ a) b = omega (arith, count-append v a b)
 
@@ -67,8 +68,7 @@ rounds-nodes k (suc d) m e us = ap (λ (n : ℕ). 1 + n)
 
 -- ---- every UID has w bits
 abbrev pub Below : ℕ → List ℕ → Type 0
-Below w [] = Unit {0}
-Below w (u ∷ us) = (u < 2 ^ w) × Below w us
+Below w = Each (λ u. u < 2 ^ w)
 
 whole-ending : (w M c : ℕ) (us : List ℕ) → Below w us → w ≤ M → length (members M c us) ≤ count c us
 whole-ending w M c [] h b = omega arith

@@ -4,7 +4,7 @@ use mathlib.Core.Path.{_≡_, sym, subst}
 use mathlib.Core.Bool.{Bool, true, false}
 use mathlib.Core.List.{List}
 use mathlib.Core.Logic.{_⊎_}
-use Prim.Native.Nat.{ℕ, _+_, _≤_, _<_}
+use Prim.Native.Nat.{ℕ, _≤_, _<_}
 use native.Mathlib.Nat.{le-refl}
 use native.Mathlib.Omega.{arith}
 use lib.Bits.{bitAnd, and-self}
@@ -22,7 +22,7 @@ use Rattle.chip.specs.Write.{locked}
 use Rattle.chip.proofs.Floor as chip
 use Rattle.rack.specs.File.{countOf, kindAt, lengthAt, startOf, bodyAt, contents, verdictOf}
 use Rattle.rack.specs.Facts.{RackFine}
-use Rattle.rack.specs.Event.{Signal, signalOf, nextBody, nextRack, Outcome, played, refused, refusalOf, eventOf}
+use Rattle.rack.specs.Event.{signalOf, nextBody, nextRack, played, refused, refusalOf, eventOf}
 use Rattle.rack.proofs.Verdicts.{fine-rack}
 use Rattle.rack.proofs.Tags.{next-chip, next-label, chip-80, label-sized, signal-sound}
 use Rattle.rack.proofs.Pass.{tag-fine}

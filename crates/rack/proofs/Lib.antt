@@ -2,8 +2,6 @@
 pub mod Places
 pub mod Rebuilt
 pub mod Verdicts
-pub mod TagLaws
-pub mod Numbered
 pub mod Tags
 pub mod Pass
 pub mod Closed

@@ -1,5 +1,5 @@
 -- One tag of either kind: each law of a label's body and of a chip's, as one law by the kind's test. A sound signal is what a decoded event
--- is. Assumes nothing of its own: what it takes from the tags' crates is in Owed.
+-- is. Assumes nothing.
 use mathlib.Core.Path.{_≡_, refl, ap, sym, _∙_}
 use mathlib.Core.Bool.{Bool, true, false, not, _&&_, _||_}
 use mathlib.Core.List.{List}
@@ -13,29 +13,32 @@ use Rattle.frame.specs.Number.{Bytes}
 use Rattle.frame.specs.Judge.{fine, bad}
 use Rattle.frame.specs.declared.verdict.Verdict.{Verdict}
 use Rattle.frame.proofs.Bools.{and-both}
-use Rattle.label.specs.declared.step.Answer.{Answer}
-use Rattle.label.specs.declared.step.Answer.the-variants as a
 use Rattle.label.specs.Request as labels
 use Rattle.label.specs.Body.{Sized, labelRules, nextLabel, saidLabel}
-use Rattle.label.specs.Answer.{Told}
+use Rattle.label.proofs.Decoded as label-decoded
+use Rattle.label.proofs.Fine as label-fine
+use Rattle.label.proofs.Keeps as label-keeps
+use Rattle.label.proofs.Answers as label-answers
+use Rattle.label.proofs.Floor.{numbers-stay}
+use Rattle.chip.specs.Request as chips
 use Rattle.chip.specs.Body.{chipRules, nextChip, saidChip}
+use Rattle.chip.proofs.Keeps as chip-keeps
+use Rattle.chip.proofs.Answers as chip-answers
 use Rattle.rack.specs.declared.event.Said.the-variants as s
 use Rattle.rack.specs.File.{lengthFits, bodyRules}
 use Rattle.rack.specs.Facts.{TagFine, Sayable}
 use Rattle.rack.specs.Event.{Signal, signalOf, nextBody, saidBy, frameOf}
-use Rattle.rack.proofs.Numbered.{numbers-stay}
-use Rattle.rack.proofs.TagLaws.{ChipSound, label-next-length, label-next-keeps, label-next-bytes, label-same-frame, label-told-of, label-rules-fine, label-fine-rules, label-rules-place, label-sized-of, label-size-of, label-frame-short, label-heard-sound, label-data-bytes, chip-next-length, chip-next-keeps, chip-next-bytes, chip-same-frame, chip-frame-short, chip-heard-sound}
 
 -- ---- sound signals
 
 pub record SignalSound (e : Signal) : Type 0 where
   pub call : labels.Sound (e .request .call)
   pub sent : Bytes (e .bytes)
-  pub asked : ChipSound (e .order)
+  pub asked : chips.Sound (e .order)
 
 -- what every event and frame make
 pub signal-sound : (e : ℕ) (f : List ℕ) → Bytes f → SignalSound (signalOf e f)
-signal-sound e f b = record { call = label-heard-sound e f b; sent = label-data-bytes f b; asked = chip-heard-sound e f b }
+signal-sound e f b = record { call = label-decoded.heard-sound e f b; sent = label-decoded.data-bytes f b; asked = chip-keeps.heard-sound e f b }
 
 -- ---- what a length that fits is
 
@@ -82,8 +85,8 @@ pub body-length : (k : ℕ) (e : Signal) (d : ℕ) (b : List ℕ) → length (ne
 body-length k e d b = go (eqb k 2) refl
   where
     go : (t : Bool) → eqb k 2 ≡ t → length (nextBody k e d b) ≡ length b
-    go true t = ap length (next-chip k t e d b) ∙ chip-next-length (e .order) d b
-    go false t = ap length (next-label k t e d b) ∙ label-next-length (e .request) (e .bytes) b
+    go true t = ap length (next-chip k t e d b) ∙ chip-keeps.next-length (e .order) d b
+    go false t = ap length (next-label k t e d b) ∙ label-keeps.next-length (e .request) (e .bytes) b
 
 -- what a fine body of its kind is
 pub chip-80 : (k : ℕ) (b : List ℕ) → eqb k 2 ≡ true → TagFine k b → length b ≡ 80
@@ -96,7 +99,7 @@ label-kept : (k : ℕ) (b : List ℕ) → eqb k 2 ≡ false → TagFine k b → 
 label-kept k b t f = ap (λ (v : Verdict). v .number) (sym (rules-label k t b)) ∙ f .rules
 
 pub label-sized : (k : ℕ) (b : List ℕ) → eqb k 2 ≡ false → TagFine k b → Sized b
-label-sized k b t f = label-sized-of b (label-kept k b t f)
+label-sized k b t f = label-fine.sized-of b (label-kept k b t f)
 
 -- the rules' verdict by the kind, and its place in the body
 if-place : (t : Bool) (v w : Verdict) (n : ℕ) → v .place ≤ n → w .place ≤ n → (if t then v else w) .place ≤ n
@@ -118,17 +121,17 @@ judged-chip k b v t e = (e ∙ sym (rules-chip k t b), rw e (chip-place b))
 
 pub judged-label : (k : ℕ) (b : List ℕ) (v : Verdict) → eqb k 2 ≡ false → lengthFits k (length b) ≡ true → v ≡ labelRules b
     → (v ≡ bodyRules k b) × (v .place ≤ 8480)
-judged-label k b v t f e = (e ∙ sym (rules-label k t b), rw e (label-rules-place b (fits-label k (length b) t f .1)))
+judged-label k b v t f e = (e ∙ sym (rules-label k t b), rw e (label-fine.rules-place b (fits-label k (length b) t f .1)))
 
 module _ (k : ℕ) (e : Signal) (d : ℕ) (b : List ℕ) (bs : Bytes b) (small : d < 256) (so : SignalSound e) (f : TagFine k b) where
   pub body-bytes : Bytes (nextBody k e d b)
   body-bytes = go (eqb k 2) refl
     where
       go : (t : Bool) → eqb k 2 ≡ t → Bytes (nextBody k e d b)
-      go true t = rw (next-chip k t e d b) (chip-next-bytes (e .order) d b bs small (so .asked) (chip-80 k b t f))
+      go true t = rw (next-chip k t e d b) (chip-keeps.next-bytes (e .order) d b bs small)
       go false t =
           rw (next-label k t e d b)
-          (label-next-bytes (e .request) (e .bytes) b bs (so .sent) (label-rules-fine b bs (label-kept k b t f)) (so .call))
+          (label-keeps.next-bytes (e .request) (e .bytes) b bs (so .sent) (label-fine.rules-fine b bs (label-kept k b t f)) (so .call))
 
   keeps : bodyRules k (nextBody k e d b) .number ≡ 0
   keeps = go (eqb k 2) refl
@@ -136,27 +139,17 @@ module _ (k : ℕ) (e : Signal) (d : ℕ) (b : List ℕ) (bs : Bytes b) (small :
       go : (t : Bool) → eqb k 2 ≡ t → bodyRules k (nextBody k e d b) .number ≡ 0
       go true t =
           rw (rules-chip k t (nextBody k e d b), next-chip k t e d b)
-          (chip-next-keeps (e .order) d b bs small (so .asked) (chip-80 k b t f) (chip-kept k b t f))
+          (chip-keeps.next-keeps (e .order) d b (chip-80 k b t f) bs (chip-kept k b t f))
       go false t =
-          let g = label-rules-fine b bs (label-kept k b t f) in
-          let m = label-next-keeps (e .request) (e .bytes) b bs g (so .call) in
-          let n = label-next-bytes (e .request) (e .bytes) b bs (so .sent) g (so .call) in
+          let g = label-fine.rules-fine b bs (label-kept k b t f) in
+          let m = label-keeps.next-keeps (e .request) (e .bytes) b bs g (so .call) in
+          let n = label-keeps.next-bytes (e .request) (e .bytes) b bs (so .sent) g (so .call) in
           rw (rules-label k t (nextBody k e d b), next-label k t e d b)
-          (ap (λ (v : Verdict). v .number) (label-fine-rules (nextLabel (e .request) (e .bytes) b) n m))
+          (ap (λ (v : Verdict). v .number) (label-fine.fine-rules (nextLabel (e .request) (e .bytes) b) n m))
 
   -- a step keeps the rules
   pub step-keeps : TagFine k (nextBody k e d b)
   step-keeps = record { fits = rw (body-length k e d b) (f .fits); rules = keeps }
-
--- the block that is told is there while the number of blocks stays
-told-same : (x : Answer) (b c : List ℕ) → getD c 11 0 ≡ getD b 11 0 → Told x b → Told x c
-unfolding Told
-told-same a.Silent b c e t = t
-told-same (a.Error x) b c e t = t
-told-same a.Done b c e t = t
-told-same a.Found b c e t = t
-told-same (a.Block n lock) b c e t = rw e t
-told-same a.Info b c e t = t
 
 sized-same : (b c : List ℕ) → length c ≡ length b → getD c 11 0 ≡ getD b 11 0 → getD c 12 0 ≡ getD b 12 0 → Sized b → Sized c
 unfolding Sized
@@ -169,8 +162,8 @@ module _ (k : ℕ) (e : Signal) (d : ℕ) (b : List ℕ) (f : TagFine k b) where
   frame-same = go (eqb k 2) refl
     where
       go : (t : Bool) → eqb k 2 ≡ t → frameOf (saidBy k e d b) (nextBody k e d b) ≡ frameOf (saidBy k e d b) b
-      go true t = rw (next-chip k t e d b, t) (chip-same-frame (e .order) d b (chip-80 k b t f))
-      go false t = rw (next-label k t e d b, t) (label-same-frame (e .request) (e .bytes) b (label-sized-of b (label-kept k b t f)))
+      go true t = rw (next-chip k t e d b, t) (chip-answers.same-frame (e .order) d b (chip-80 k b t f))
+      go false t = rw (next-label k t e d b, t) (label-answers.same-frame (e .request) (e .bytes) b (label-fine.sized-of b (label-kept k b t f)))
 
   -- the answer's writer has what it needs, in the old body and in the next
   pub sayable : Sayable (saidBy k e d b) b
@@ -181,7 +174,7 @@ module _ (k : ℕ) (e : Signal) (d : ℕ) (b : List ℕ) (f : TagFine k b) where
       go true t = rw t (omega (arith, chip-80 k b t f))
       go false t =
           let z = label-kept k b t f in
-          rw t (label-sized-of b z, (label-size-of b z, label-told-of (e .request) (length (e .bytes)) b))
+          rw t (label-fine.sized-of b z, (label-fine.size-of b z, label-answers.told-of (e .request) (length (e .bytes)) b))
 
   pub sayable-next : Sayable (saidBy k e d b) (nextBody k e d b)
   unfolding saidBy Sayable
@@ -192,11 +185,11 @@ module _ (k : ℕ) (e : Signal) (d : ℕ) (b : List ℕ) (f : TagFine k b) where
       go false t =
           let z = label-kept k b t f in
           let c = nextLabel (e .request) (e .bytes) b in
-          let p : getD c 11 0 ≡ getD b 11 0 = numbers-stay 11 (omega arith) (omega arith) (e .request) (e .bytes) b in
-          let q : getD c 12 0 ≡ getD b 12 0 = numbers-stay 12 (omega arith) (omega arith) (e .request) (e .bytes) b in
+          let p : getD c 11 0 ≡ getD b 11 0 = numbers-stay (e .request) (e .bytes) b 11 (omega arith) (omega arith) in
+          let q : getD c 12 0 ≡ getD b 12 0 = numbers-stay (e .request) (e .bytes) b 12 (omega arith) (omega arith) in
           rw (next-label k t e d b, t) (
-            sized-same b c (label-next-length (e .request) (e .bytes) b) p q (label-sized-of b z),
-            (omega (arith, q, label-size-of b z), told-same _ b c p (label-told-of (e .request) (length (e .bytes)) b)),
+            sized-same b c (label-keeps.next-length (e .request) (e .bytes) b) p q (label-fine.sized-of b z),
+            (omega (arith, q, label-fine.size-of b z), label-answers.told-next (e .request) (e .bytes) b),
           )
 
   -- and its frame fits in the answer buffer
@@ -205,7 +198,7 @@ module _ (k : ℕ) (e : Signal) (d : ℕ) (b : List ℕ) (f : TagFine k b) where
   frame-short = go (eqb k 2) refl
     where
       go : (t : Bool) → eqb k 2 ≡ t → length (frameOf (saidBy k e d b) b) ≤ 36
-      go true t = rw t (omega (arith, chip-frame-short (saidChip (e .order) d b) b (chip-80 k b t f)))
+      go true t = rw t (omega (arith, chip-answers.frame-short (saidChip (e .order) d b) b))
       go false t =
           let z = label-kept k b t f in
-          rw t (label-frame-short _ b (label-sized-of b z) (label-size-of b z) (label-told-of (e .request) (length (e .bytes)) b))
+          rw t (label-answers.frame-short _ b (label-fine.sized-of b z) (label-fine.size-of b z) (label-answers.told-of (e .request) (length (e .bytes)) b))

@@ -1,8 +1,8 @@
 -- Document 01, "Events" and "Numbers a call can come back with": what an event does to a rack, and what it reports. Assumes nothing.
 use mathlib.Core.Path.{_≡_}
-use mathlib.Core.Bool.{Bool, true, false, not, _&&_}
+use mathlib.Core.Bool.{Bool, true, not, _&&_}
 use mathlib.Core.List.{List, [], _∷_, _++_}
-use Prim.Native.Nat.{ℕ, _+_, _<_}
+use Prim.Native.Nat.{ℕ, _<_}
 use lib.Dec.{eqb, ltb, leb}
 use lib.ListN.{length, getD, drop}
 use Rattle.frame.specs.Choose.{if_then_else_, gather}
@@ -10,7 +10,6 @@ use Rattle.label.specs.Request as labels
 use Rattle.label.specs.Body.{nextLabel, saidLabel}
 use Rattle.label.specs.Answer as label
 use Rattle.label.specs.declared.request.Request.{Request}
-use Rattle.label.specs.declared.step.Answer as labelAnswer
 use Rattle.chip.specs.Request as chips
 use Rattle.chip.specs.Body.{nextChip, saidChip}
 use Rattle.chip.specs.Answer as chip

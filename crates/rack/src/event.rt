@@ -8,14 +8,13 @@ use crate::tag::step_tag;
 use chip::request::Order;
 use label::request::Request;
 ghost use mathlib.Core.Path.{_≡_};
-ghost use mathlib.Core.Bool.{true};
 ghost use Prim.Native.Nat.{_+_, _≤_, _<_};
 ghost use lib.ListN.{length};
 ghost use lib.Seq.{sets};
 ghost use Rattle.frame.specs.Number.{part, splice};
 ghost use Rattle.rack.specs.File.{countOf};
 ghost use Rattle.rack.specs.Facts.{RackFine, TagFine, Sayable, Tellable, bodyOf};
-ghost use Rattle.rack.specs.Event.{Signal, nextBody, saidBy, frameOf, nextRack, HeardOf, refusalOf, eventOf};
+ghost use Rattle.rack.specs.Event.{nextBody, saidBy, frameOf, nextRack, HeardOf, refusalOf, eventOf};
 
 // What a tag says.
 pub enum Said {

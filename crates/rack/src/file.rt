@@ -8,9 +8,9 @@ ghost use mathlib.Core.Path.{_≡_};
 ghost use mathlib.Core.Bool.{true, _||_};
 ghost use Prim.Native.Nat.{_+_, _*_, _≤_, _<_};
 ghost use lib.Dec.{eqb};
-ghost use lib.ListN.{length, getD};
+ghost use lib.ListN.{length};
 ghost use Rattle.frame.specs.Judge.{firstOf};
-ghost use Rattle.rack.specs.File.{countOf, entryAt, kindAt, lengthAt, offsetAt, startOf, lengthFits, headVerdict, entryVerdict, bodyVerdict, endVerdict, verdictOf};
+ghost use Rattle.rack.specs.File.{countOf, entryAt, lengthAt, offsetAt, startOf, lengthFits, headVerdict, entryVerdict, bodyVerdict, endVerdict, verdictOf};
 ghost use Rattle.rack.specs.Facts.{HeadFine, EntryFine, EntriesFine};
 
 // The number of tags.

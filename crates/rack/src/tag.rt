@@ -5,12 +5,11 @@ use frame::verdict::Verdict;
 use label::request::Request;
 ghost use mathlib.Core.Path.{_≡_};
 ghost use mathlib.Core.Bool.{true};
-ghost use Prim.Native.Nat.{_+_, _≤_};
+ghost use Prim.Native.Nat.{_≤_};
 ghost use lib.ListN.{length};
-ghost use lib.Seq.{sets};
 ghost use Rattle.rack.specs.File.{lengthFits, bodyRules};
 ghost use Rattle.rack.specs.Facts.{TagFine};
-ghost use Rattle.rack.specs.Event.{Signal, nextBody, saidBy, speaks, frameOf};
+ghost use Rattle.rack.specs.Event.{nextBody, saidBy, speaks};
 
 // The rules of a body, by its kind.
 pub fn judge_tag(kind: u8, body: &[u8]) -> Verdict

@@ -54,7 +54,7 @@ use Rattle.reader.proofs.Gives.{Success, after-slot}
 use Rattle.reader.proofs.Made.{bytes-same, made, Body, made-body}
 use Rattle.label.proofs.Fine.{fine-rules}
 use Rattle.label.proofs.Room.{sized-long}
-use Rattle.label.proofs.Slots.{during-uid, said-first, said-step, seek-getD}
+use Rattle.label.proofs.Slots.{during-uid, said-first, said-step, seek-getD, found-frame}
 
 -- ---- a frame that is read
 
@@ -224,9 +224,6 @@ block-frame : (n lock : ℕ) (b s : List ℕ) → getD b (label.lockAt n) 0 ≡ 
     → (answerFrame (a.Block n true) b ≡ framed (0 ∷ lock ∷ s)) × (answerFrame (a.Block n false) b ≡ framed (0 ∷ s))
 unfolding answerFrame blockBytes
 block-frame n lock b s h e = (ap₂ (λ (x : ℕ) (y : List ℕ). framed (0 ∷ x ∷ y)) h e, ap (λ (y : List ℕ). framed (0 ∷ y)) e)
-
-lock-speaks : (n : ℕ) (opt : Bool) → speaks (a.Block n opt) ≡ true
-lock-speaks n opt = refl
 
 block-given : (to : Target) (opt : Bool) (n lock : ℕ) (uid d s g : List ℕ) → length uid ≡ 8 → Bytes uid → n < 256
     → valid (c.Label to opt (t.Read n)) (length d) ≡ true → lock ≤ 1 → Bytes s → 1 ≤ length s → length s ≤ 32
@@ -420,10 +417,6 @@ seen family mask k s r bs h =
       ends = ap (λ (l : List ℕ). endsIn l mask k) (y .uid) ∙ e2 .1;
       frame = ap framed (ap₂ (λ (x : ℕ) (l : List ℕ). 0 ∷ x ∷ l) (y .dsfids) (y .uid) ∙ w);
     }
-
-found-frame : (b : List ℕ) → answerFrame a.Found b ≡ framed (0 ∷ getD b 8 0 ∷ part 0 8 b)
-unfolding answerFrame
-found-frame b = refl
 
 said-one : (family : Family) (x e n : ℕ) (b : List ℕ) → getD b 14 0 ≡ 3 → on family b ≡ true → endsIn (part 0 8 b) e x ≡ true
     → label.saidLabel (bare (k.Inventory family false x e)) n b ≡ a.Found

@@ -72,14 +72,6 @@ valid-chip to opt task n v =
     let b = and-both (everyone to) (chipFits task n) (a .1) in
     record { plain = is-off opt (a .0); all = is-everyone to (b .0); fit = b .1 }
 
-pub listed-small : (a : ℕ) → listed a ≡ true → a < 256
-unfolding listed
-listed-small a e = go (ltb a 16) (eqb a 255) e (ltb-true a 16) (eqb-true a 255)
-  where
-    go : (x y : Bool) → (x || y) ≡ true → (x ≡ true → a < 16) → (y ≡ true → a ≡ 255) → a < 256
-    go true y e f g = omega (arith, f refl)
-    go false y e f g = omega (arith, g e)
-
 pub marker-small : (s n : ℕ) → chipFits (p.Marker s) n ≡ true → (1 ≤ s) × (s ≤ 15)
 unfolding chipFits
 marker-small s n e = let a = and-both (leb 1 s) (leb s 15) e in (leb-true 1 s (a .0), leb-true s 15 (a .1))

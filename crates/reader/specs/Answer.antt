@@ -1,7 +1,7 @@
 -- Document 01, "Reader's side": what a frame means to the command that was sent. Assumes nothing.
 use mathlib.Core.Bool.{Bool, true, false, not, _&&_, _||_}
 use mathlib.Core.List.{List}
-use Prim.Native.Nat.{ℕ, _+_, _-_, _%_}
+use Prim.Native.Nat.{ℕ, _-_, _%_}
 use lib.Dec.{eqb, ltb, leb}
 use lib.ListN.{length, getD, replicate}
 use Rattle.frame.specs.Choose.{if_then_else_}

@@ -1,5 +1,5 @@
 -- Document 01, "Reader's side": the bytes of a request, and what the writer leaves. Assumes nothing.
-use mathlib.Core.Bool.{Bool, true, false, not}
+use mathlib.Core.Bool.{Bool}
 use mathlib.Core.List.{List, [], _∷_, _++_}
 use Prim.Native.Nat.{ℕ, _+_, _*_}
 use lib.Dec.{eqb, ltb}
@@ -8,7 +8,6 @@ use Rattle.frame.specs.Choose.{if_then_else_}
 use Rattle.frame.specs.Number.{num, bytesOf}
 use Rattle.frame.specs.CheckSum.{framed}
 use Rattle.frame.specs.Ending.{bytesFor}
-use Rattle.label.specs.Request.{bare}
 use Rattle.label.specs.declared.request.Target.{Target}
 use Rattle.label.specs.declared.request.Target.the-variants.{Everyone, Selected, One}
 use Rattle.label.specs.declared.request.Family.{Family}

@@ -1,7 +1,7 @@
 -- Document 01, "Reader's side": a success fits when some well-formed tag here gives it to that command, or, after a sixteen-slot
 -- Inventory, in a later slot. What "gives" means, in the words of the tag side alone. Assumes nothing.
 use mathlib.Core.Path.{_≡_}
-use mathlib.Core.Bool.{Bool, true, false}
+use mathlib.Core.Bool.{true}
 use mathlib.Core.List.{List, []}
 use Prim.Native.Nat.{ℕ, zero, suc, _<_}
 use lib.ListN.{length}
