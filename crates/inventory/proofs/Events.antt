@@ -9,9 +9,8 @@ use native.Mathlib.Omega.{arith}
 use borrow.Author.Tests.{eq-eqb, eqb-true}
 use lib.Dec.{eqb, ltb, leb}
 use lib.ListN.{length, getD, replicate, length-replicate}
-use Rattle.frame.specs.Choose.{if_then_else_, gather}
+use Rattle.frame.specs.Choose.{gather}
 use Rattle.frame.specs.Number.{Bytes}
-use Rattle.frame.specs.Judge.{fine, bad}
 use Rattle.frame.specs.declared.verdict.Verdict.{Verdict}
 use Rattle.frame.proofs.Numbers.{bytes-part}
 use Rattle.frame.proofs.Verdicts.{if-fine, not-none}
@@ -22,7 +21,7 @@ use Rattle.label.specs.declared.request.Family.the-variants.{Any, Only}
 use Rattle.label.specs.declared.request.Call.{Call}
 use Rattle.label.specs.declared.request.Call.the-variants.{Inventory, EndOfFrame}
 use Rattle.chip.specs.Request as chips
-use Rattle.rack.specs.File.{countOf, entryAt, kindAt, lengthAt, offsetAt, startOf, bodyAt, rebuilt, lengthFits, entryVerdict, bodyRules}
+use Rattle.rack.specs.File.{countOf, entryAt, kindAt, lengthAt, startOf, bodyAt, rebuilt, lengthFits, entryVerdict, bodyRules}
 use Rattle.rack.specs.Facts.{RackFine}
 use Rattle.rack.specs.Event.{Signal, Outcome, signalOf, next, answer, nextRack, answers, played, refusalOf, eventOf}
 use Rattle.inventory.specs.Walk.{request, sent}
@@ -54,14 +53,9 @@ two-kinds k h = go (eqb k 1) refl (eqb k 2) refl h
 pub kind-of : (r : List ℕ) → RackFine r → (i : ℕ) → i < countOf r → (kindAt r i ≡ 1) ⊎ (kindAt r i ≡ 2)
 unfolding entryVerdict
 kind-of r ok i h =
-    let last : Verdict = if not (eqb (offsetAt r i) (startOf r i)) then bad 12 (entryAt i + 4) else fine in
-    let small : Verdict = if ltb 65536 (startOf r i + lengthAt r i) then bad 12 (entryAt i + 2) else last in
-    let fits : Verdict = if not (lengthFits (kindAt r i) (lengthAt r i)) then bad 12 (entryAt i + 2) else small in
-    let none : Verdict = if not (eqb (getD r (entryAt i + 1) 0) 0) then bad 12 (entryAt i + 1) else fits in
-    let kind : Verdict = if not (eqb (kindAt r i) 1 || eqb (kindAt r i) 2) then bad 12 (entryAt i) else none in
     let e = ap (λ (v : Verdict). v .number) (ok .entry i h .isFine) in
-    let k = if-fine (ltb (length r) (entryAt i + 8)) 10 (length r) kind (not-none 9) e .1 in
-    two-kinds (kindAt r i) (if-fine (not (eqb (kindAt r i) 1 || eqb (kindAt r i) 2)) 12 (entryAt i) none (not-none 11) k .0)
+    let t = if-fine (ltb (length r) (entryAt i + 8)) 10 (length r) _ (not-none 9) e in
+    two-kinds (kindAt r i) (if-fine (not (eqb (kindAt r i) 1 || eqb (kindAt r i) 2)) 12 (entryAt i) _ (not-none 11) (t .1) .0)
 
 fits-long : (k len : ℕ) → lengthFits k len ≡ true → 34 ≤ len
 fits-long k len h = go (eqb k 2) refl

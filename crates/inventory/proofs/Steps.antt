@@ -1,5 +1,5 @@
 -- The walk's own steps: a round, and then each collided slot carried through. Idea: `Rounded`, what is known once the round is over, and `Carried`, the loop's invariant;
--- room and rounds suffice because what has run is a prefix of the whole (`grows-to`). Assumes nothing.
+-- room and rounds suffice because what has run is a prefix of the whole (`grows-to`), and past 56 bits there is no round below (`last`). Assumes nothing.
 use mathlib.Core.Path.{_≡_, refl, ap, sym, subst, _∙_}
 use mathlib.Core.Bool.{Bool, true, false}
 use mathlib.Core.List.{List, [], append-nil}

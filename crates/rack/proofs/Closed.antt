@@ -80,14 +80,6 @@ module _ (r : List ℕ) (e : Signal) (ds : List ℕ) (ok : RackFine r) where
   unfolding nextRack
   next-length = rebuilt-length r (ok .whole) (next r e ds) sized
 
-  pub next-count : countOf (nextRack r e ds) ≡ countOf r
-  unfolding nextRack
-  next-count = rebuilt-count r (ok .whole) (next r e ds) sized
-
-  pub next-kind : (i : ℕ) → i < countOf r → kindAt (nextRack r e ds) i ≡ kindAt r i
-  unfolding nextRack
-  next-kind = rebuilt-kind r (ok .whole) (next r e ds) sized
-
   pub next-lengthAt : (i : ℕ) → i < countOf r → lengthAt (nextRack r e ds) i ≡ lengthAt r i
   unfolding nextRack
   next-lengthAt = rebuilt-lengthAt r (ok .whole) (next r e ds) sized

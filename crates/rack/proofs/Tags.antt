@@ -13,8 +13,11 @@ use Rattle.frame.specs.Number.{Bytes}
 use Rattle.frame.specs.Judge.{fine, bad}
 use Rattle.frame.specs.declared.verdict.Verdict.{Verdict}
 use Rattle.frame.proofs.Bools.{and-both}
+use Rattle.label.specs.declared.step.Answer.{Answer}
+use Rattle.label.specs.declared.step.Answer.the-variants as a
 use Rattle.label.specs.Request as labels
 use Rattle.label.specs.Body.{Sized, labelRules, nextLabel, saidLabel}
+use Rattle.label.specs.Answer.{Told}
 use Rattle.label.proofs.Decoded as label-decoded
 use Rattle.label.proofs.Fine as label-fine
 use Rattle.label.proofs.Keeps as label-keeps
@@ -151,6 +154,16 @@ module _ (k : ℕ) (e : Signal) (d : ℕ) (b : List ℕ) (bs : Bytes b) (small :
   pub step-keeps : TagFine k (nextBody k e d b)
   step-keeps = record { fits = rw (body-length k e d b) (f .fits); rules = keeps }
 
+-- the block that is told is there while the number of blocks stays
+told-same : (x : Answer) (b c : List ℕ) → getD c 11 0 ≡ getD b 11 0 → Told x b → Told x c
+unfolding Told
+told-same a.Silent b c e t = t
+told-same (a.Error x) b c e t = t
+told-same a.Done b c e t = t
+told-same a.Found b c e t = t
+told-same (a.Block n lock) b c e t = rw e t
+told-same a.Info b c e t = t
+
 sized-same : (b c : List ℕ) → length c ≡ length b → getD c 11 0 ≡ getD b 11 0 → getD c 12 0 ≡ getD b 12 0 → Sized b → Sized c
 unfolding Sized
 sized-same b c l p q z = rw (l, p, q) z
@@ -165,17 +178,7 @@ module _ (k : ℕ) (e : Signal) (d : ℕ) (b : List ℕ) (f : TagFine k b) where
       go true t = rw (next-chip k t e d b, t) (chip-answers.same-frame (e .order) d b (chip-80 k b t f))
       go false t = rw (next-label k t e d b, t) (label-answers.same-frame (e .request) (e .bytes) b (label-fine.sized-of b (label-kept k b t f)))
 
-  -- the answer's writer has what it needs, in the old body and in the next
-  pub sayable : Sayable (saidBy k e d b) b
-  unfolding saidBy Sayable
-  sayable = go (eqb k 2) refl
-    where
-      go : (t : Bool) → eqb k 2 ≡ t → Sayable (saidBy k e d b) b
-      go true t = rw t (omega (arith, chip-80 k b t f))
-      go false t =
-          let z = label-kept k b t f in
-          rw t (label-fine.sized-of b z, (label-fine.size-of b z, label-answers.told-of (e .request) (length (e .bytes)) b))
-
+  -- the answer's writer has what it needs in the next body
   pub sayable-next : Sayable (saidBy k e d b) (nextBody k e d b)
   unfolding saidBy Sayable
   sayable-next = go (eqb k 2) refl
@@ -189,7 +192,7 @@ module _ (k : ℕ) (e : Signal) (d : ℕ) (b : List ℕ) (f : TagFine k b) where
           let q : getD c 12 0 ≡ getD b 12 0 = numbers-stay (e .request) (e .bytes) b 12 (omega arith) (omega arith) in
           rw (next-label k t e d b, t) (
             sized-same b c (label-keeps.next-length (e .request) (e .bytes) b) p q (label-fine.sized-of b z),
-            (omega (arith, q, label-fine.size-of b z), label-answers.told-next (e .request) (e .bytes) b),
+            (omega (arith, q, label-fine.size-of b z), told-same _ b c p (label-answers.told-of (e .request) (length (e .bytes)) b)),
           )
 
   -- and its frame fits in the answer buffer

@@ -111,6 +111,7 @@ fn refuse(rack: &[u8], number: u8, draws: usize, room: usize) -> u8
     }
     0
 }
+
 // Writes the frame of what a tag said, taken from its body, to the front of the answer buffer.
 fn write_said(said: Said, body: &[u8], answer: &mut [u8]) -> usize
     requires { ⌜ Sayable said (now body) × (64 ≤ length (now answer)) ⌝ }

@@ -53,7 +53,7 @@ use Rattle.reader.specs.Tags.{LabelGives, SlotGives, ChipGives, after}
 use Rattle.reader.specs.Plan.{hasAnswer}
 use Rattle.reader.proofs.Valid.{valid-inventory}
 use Rattle.reader.proofs.Meant.{label-meant, inventory-meant, chip-meant}
-use Rattle.reader.proofs.Read.{answersDone, error-read, done-read, block-read, info-read, found-read, initiate-read, pcall-read, marker-read, select-read, word-read, uid-read}
+use Rattle.reader.proofs.Read.{and-false, answersDone, error-read, done-read, block-read, info-read, found-read, initiate-read, pcall-read, marker-read, select-read, word-read, uid-read}
 use Rattle.label.proofs.Fine.{rules-fine}
 use Rattle.label.proofs.Room.{sized-long}
 use Rattle.label.proofs.Slots.{during-uid, first, last, said-last, said-step, step}
@@ -224,10 +224,6 @@ inventory-gives to opt family sixteen m mask uid d g v y =
 -- a family that a label is not of: then it is in no slot
 abbrev other : List ℕ → Family
 other b = Only (suc (getD b 9 0))
-
-and-false : (x : Bool) → (x && false) ≡ false
-and-false true = refl
-and-false false = refl
 
 clear-other : (m e s : ℕ) (b : List ℕ) → during (other b) m e s b ≡ clear b
 unfolding during on steps.passes

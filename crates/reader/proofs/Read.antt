@@ -47,7 +47,7 @@ read-framed c uid n s v h =
 
 -- ---- labels
 
-and-false : (b : Bool) → (b && false) ≡ false
+pub and-false : (b : Bool) → (b && false) ≡ false
 and-false true = refl
 and-false false = refl
 
