@@ -1,2 +1,3 @@
 -- The C face, as laws.
 pub mod Ways
+pub mod Same
