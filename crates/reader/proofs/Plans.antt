@@ -1,5 +1,5 @@
--- A plan's parts, one behind the other, are the request's bytes, and fit 52 bytes: by the cases of the command, never looking at the code.
--- Then the ways out of the functions that plan and lay, and the three ways out of the writer.
+-- The ways out of the functions that plan and lay, and the three of the writer. Idea: a plan's parts, one behind the other, are the request's
+-- bytes, and fit 52 bytes, by the cases of the command.
 -- Assumes nothing.
 use mathlib.Core.Path.{_≡_, refl, sym, ap, subst, _∙_}
 use mathlib.Core.Bool.{Bool, true, false, not}
