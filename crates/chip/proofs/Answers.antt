@@ -25,8 +25,8 @@ pub frame-store : (x : Answer) (b : List ℕ) (c : Chip) → 76 ≤ length b →
 unfolding answerFrame
 frame-store a.Silent b c l = refl
 frame-store (a.Id id) b c l = refl
-frame-store (a.Block n) b c l = ap framed (store-part b c (placeOf n) 4 (omega (arith, place-fits n)) l)
-frame-store a.Uid b c l = ap framed (store-part b c 68 8 (omega arith) l)
+frame-store (a.Block n) b c l = ap framed (store-part b c (placeOf n) 4 (omega (arith, place-fits n)))
+frame-store a.Uid b c l = ap framed (store-part b c 68 8 (omega arith))
 
 pub same-frame : (order : Order) (d : ℕ) (b : List ℕ) → length b ≡ 80
     → answerFrame (saidChip order d b) (nextChip order d b) ≡ answerFrame (saidChip order d b) b

@@ -17,8 +17,9 @@ use lib.Seq.{sets}
 use borrow.Author.Tests.{eqb-true, eqb-false, eq-eqb, ne-eqb, lt-ltb, ltb-true, not-true}
 use Rattle.frame.specs.Choose.{bit}
 use Rattle.frame.specs.Number.{num, bytesOf, part, Bytes}
-use Rattle.frame.proofs.Bools.{and-both}
+use Rattle.frame.proofs.Bools.{and-both, or-off, if-either, below-or-not, same-or-not}
 use Rattle.frame.proofs.Numbers.{num-bytes, num-bytes-lt}
+use Rattle.frame.proofs.Stores.{part-off, part-on}
 use Rattle.chip.specs.declared.request.Order.{Order}
 use Rattle.chip.specs.declared.request.Order.the-variants as o
 use Rattle.chip.specs.declared.step.Chip.{Chip}
@@ -28,20 +29,19 @@ use Rattle.chip.specs.Request.{heard}
 use Rattle.chip.specs.Write.{locked, written, countDown, lockDown}
 use Rattle.chip.specs.Step.{act, select, leave}
 use Rattle.chip.specs.Body.{loadOf, storeOf, placeOf, blockAt, worked, stepped, nextChip, saidChip}
-use Rattle.chip.proofs.Bools.{if-either, or-off, below-or-not, same-or-not}
 use Rattle.chip.proofs.Shapes.{place-fits, word-lt}
 use Rattle.chip.proofs.Steps.{Next}
-use Rattle.chip.proofs.Bodies.{part-off, part-on, place-low, place-high, store-length, store-off, store-part, store-reload, store-load, work-off, next-by}
+use Rattle.chip.proofs.Bodies.{place-low, place-high, store-length, store-off, store-part, store-reload, store-load, work-off, next-by}
 use Rattle.chip.proofs.Keeps.{ChipFine, written-high}
 
 -- ---- what no step writes
 
 pub uid-stays : (order : Order) (d : ℕ) (b : List ℕ) → length b ≡ 80 → part 68 8 (nextChip order d b) ≡ part 68 8 b
 uid-stays order d b l =
-    next-by (λ (x : List ℕ). part 68 8 x ≡ part 68 8 b) order d b (λ c k. store-part b c 68 8 (omega arith) (omega arith))
+    next-by (λ (x : List ℕ). part 68 8 x ≡ part 68 8 b) order d b (λ c k. store-part b c 68 8 (omega arith))
     (λ m v c q k n.
-    part-off 68 8 (placeOf m) (storeOf b c) (bytesOf 4 (written m (blockAt m b) v (getD b 78 0))) (rw (store-length b c) (omega arith)) (inr (place-fits m))
-    ∙ store-part b c 68 8 (omega arith) (omega arith))
+    part-off (storeOf b c) (bytesOf 4 (written m (blockAt m b) v (getD b 78 0))) (placeOf m) 68 8 (inr (place-fits m))
+    ∙ store-part b c 68 8 (omega arith))
 
 pub fixed-stays : (order : Order) (d : ℕ) (b : List ℕ) → getD (nextChip order d b) 79 0 ≡ getD b 79 0
 unfolding nextChip
@@ -64,10 +64,10 @@ apart m n h z =
     (below-or-not m 16)
 
 block-on : (n v : ℕ) (x : List ℕ) → 68 ≤ length x → blockAt n (sets x (placeOf n) (bytesOf 4 v)) ≡ num (bytesOf 4 v)
-block-on n v x l = ap num (part-on (placeOf n) x (bytesOf 4 v) (omega (arith, place-fits n)))
+block-on n v x l = ap num (part-on x (bytesOf 4 v) (placeOf n) (omega (arith, place-fits n)))
 
 block-store : (n : ℕ) (b : List ℕ) (c : Chip) → length b ≡ 80 → blockAt n (storeOf b c) ≡ blockAt n b
-block-store n b c l = ap num (store-part b c (placeOf n) 4 (omega (arith, place-fits n)) (omega arith))
+block-store n b c l = ap num (store-part b c (placeOf n) 4 (omega (arith, place-fits n)))
 
 -- the lock word only falls
 lock-le : (s v : ℕ) → lockDown s v ≤ s
@@ -94,8 +94,7 @@ module _ (P : ℕ → Type 0) (order : Order) (d : ℕ) (b : List ℕ) (l : leng
           subst P
           (sym
           (ap num
-          (part-off (placeOf n) 4 (placeOf m) (storeOf b c) (bytesOf 4 (written m (blockAt m b) v (getD b 78 0))) (omega (arith, place-fits n))
-          (apart m n h e))
+          (part-off (storeOf b c) (bytesOf 4 (written m (blockAt m b) v (getD b 78 0))) (placeOf m) (placeOf n) 4 (apart m n h e))
           ∙ block-store n b c l))
           f)
           (same-or-not m n)
@@ -110,8 +109,7 @@ module _ (P : ℕ → Type 0) (order : Order) (d : ℕ) (b : List ℕ) (l : leng
       subst P
       (sym
       (ap num
-      (part-off 64 4 (placeOf m) (storeOf b c) (bytesOf 4 (written m (blockAt m b) v (getD b 78 0))) (rw (store-length b c) (omega arith))
-      (inr (omega (arith, place-low m h))))
+      (part-off (storeOf b c) (bytesOf 4 (written m (blockAt m b) v (getD b 78 0))) (placeOf m) 64 4 (inr (omega (arith, place-low m h))))
       ∙ stays c))
       f)
       (λ (h : 16 ≤ m).
@@ -120,13 +118,13 @@ module _ (P : ℕ → Type 0) (order : Order) (d : ℕ) (b : List ℕ) (l : leng
       rw (w, place-high m h)
       (subst P
       (sym
-      (ap num (part-on 64 (storeOf b c) (bytesOf 4 (lockDown (num (part 64 4 b)) v)) (rw (store-length b c) (omega arith)))
+      (ap num (part-on (storeOf b c) (bytesOf 4 (lockDown (num (part 64 4 b)) v)) 64 (rw (store-length b c) (omega arith)))
       ∙ num-bytes-lt 4 (lockDown (num (part 64 4 b)) v) (omega (arith, lock-le (num (part 64 4 b)) v, word-lt 64 b bs))))
       (g v)))
       (below-or-not m 16))
     where
       stays : (c : Chip) → num (part 64 4 (storeOf b c)) ≡ num (part 64 4 b)
-      stays c = ap num (store-part b c 64 4 (omega arith) (omega arith))
+      stays c = ap num (store-part b c 64 4 (omega arith))
 
 -- ---- counters
 

@@ -5,7 +5,7 @@ use mathlib.Core.Path.{_≡_, refl, sym, ap, _∙_}
 use mathlib.Core.Logic.{_⊎_, inl, inr, ⊎-elim}
 use mathlib.Core.Bool.{not, _&&_, _||_}
 use mathlib.Core.List.{List, [], _∷_}
-use Prim.Native.Nat.{ℕ, zero, suc, _+_, _*_, _/_, _%_, _^_, _≤_, _<_}
+use Prim.Native.Nat.{ℕ, _+_, _*_, _/_, _%_, _^_, _≤_, _<_}
 use native.Mathlib.Omega.{arith}
 use lib.Dec.{eqb, ltb, lit<}
 use lib.ListN.{length, getD}
@@ -18,7 +18,8 @@ use Rattle.frame.specs.declared.verdict.Verdict.{Verdict}
 use Rattle.frame.proofs.Lists.{part-values, valuesFrom}
 use Rattle.frame.proofs.Numbers.{length-bytes, bytes-small}
 use Rattle.frame.proofs.Verdicts.{if-fine, not-none}
-use Rattle.frame.proofs.Bools.{and-both}
+use Rattle.frame.proofs.Bools.{and-both, and-off, off-and, or-off, off-or, if-either, below-or-not, not-other}
+use Rattle.frame.proofs.Stores.{sets-off, sets-on, bytes-three, bytes-sets}
 use Rattle.chip.specs.declared.request.Order.{Order}
 use Rattle.chip.specs.declared.step.Chip.{Chip}
 use Rattle.chip.specs.declared.step.Stepped.{Stepped}
@@ -27,10 +28,9 @@ use Rattle.chip.specs.Request as q
 use Rattle.chip.specs.Write.{written, lockDown}
 use Rattle.chip.specs.Step.{chosen}
 use Rattle.chip.specs.Body.{loadOf, storeOf, placeOf, blockAt, named, nextChip, stepped, chipRules}
-use Rattle.chip.proofs.Bools.{if-either, or-off, and-off, off-or, off-and, below-or-not, not-other}
 use Rattle.chip.proofs.Shapes.{word-lt}
 use Rattle.chip.proofs.Steps.{Next, Steps, quiet, wrote, steps, same, ended, fixed, drawn, started, called, left, selected, reloading}
-use Rattle.chip.proofs.Bodies.{sets-off, sets-first, bytes-sets, place-low, place-high, store-length, store-off, store-state, store-id, store-reload, work-length, work-off, next-by}
+use Rattle.chip.proofs.Bodies.{place-low, place-high, store-length, store-off, store-state, store-id, store-reload, work-length, work-off, next-by}
 
 -- ---- length
 
@@ -53,35 +53,29 @@ unfolding chosen
 chosen-small d c hd h = if-either (λ (x : ℕ). x < 256) (eqb (c .fixed) 1) (c .id) d (λ e. h) (λ e. hd)
 
 -- what a step stores are bytes
-three : (x y z : ℕ) → x < 256 → y < 256 → z < 256 → Bytes (x ∷ y ∷ z ∷ [])
-three x y z hx hy hz zero = hx
-three x y z hx hy hz (suc zero) = hy
-three x y z hx hy hz (suc (suc zero)) = hz
-three x y z hx hy hz (suc (suc (suc i))) = lit< tt
-
 small-next : (d : ℕ) (c x : Chip) → d < 256 → Small c → Next d c x → Bytes (x .state ∷ x .id ∷ x .reload ∷ [])
-small-next d c x hd h same = three _ _ _ (h .state) (h .id) (h .reload)
-small-next d c x hd h ended = three 0 0 0 (lit< tt) (lit< tt) (lit< tt)
-small-next d c x hd h (fixed e f) = three 1 _ _ (lit< tt) (h .own) (h .reload)
-small-next d c x hd h (drawn e f) = three 1 _ _ (lit< tt) hd (h .reload)
-small-next d c x hd h (started e) = three 2 _ _ (lit< tt) (chosen-small d c hd (h .id)) (h .reload)
+small-next d c x hd h same = bytes-three _ _ _ (h .state) (h .id) (h .reload)
+small-next d c x hd h ended = bytes-three 0 0 0 (lit< tt) (lit< tt) (lit< tt)
+small-next d c x hd h (fixed e f) = bytes-three 1 _ _ (lit< tt) (h .own) (h .reload)
+small-next d c x hd h (drawn e f) = bytes-three 1 _ _ (lit< tt) hd (h .reload)
+small-next d c x hd h (started e) = bytes-three 2 _ _ (lit< tt) (chosen-small d c hd (h .id)) (h .reload)
 small-next d c x hd h (called e) =
     let l : c .id < 256 = h .id in
-    three _ _ _ (h .state) (omega arith) (h .reload)
+    bytes-three _ _ _ (h .state) (omega arith) (h .reload)
 small-next d c x hd h (left s e f) =
-    three s _ 0 (⊎-elim (λ (p : s ≡ 2). omega arith) (λ q. ⊎-elim (λ (p : s ≡ 4). omega arith) (λ (p : s ≡ 5). omega arith) q) e) (h .id) (lit< tt)
-small-next d c x hd h (selected e) = three 3 _ 0 (lit< tt) (h .id) (lit< tt)
-small-next d c x hd h (reloading e) = three _ _ 1 (h .state) (h .id) (lit< tt)
+    bytes-three s _ 0 (⊎-elim (λ (p : s ≡ 2). omega arith) (λ q. ⊎-elim (λ (p : s ≡ 4). omega arith) (λ (p : s ≡ 5). omega arith) q) e) (h .id) (lit< tt)
+small-next d c x hd h (selected e) = bytes-three 3 _ 0 (lit< tt) (h .id) (lit< tt)
+small-next d c x hd h (reloading e) = bytes-three _ _ 1 (h .state) (h .id) (lit< tt)
 
 pub next-bytes : (order : Order) (d : ℕ) (b : List ℕ) → Bytes b → d < 256 → Bytes (nextChip order d b)
 unfolding loadOf storeOf
 next-bytes order d b h hd =
     let k : Small (loadOf b) = record { own = h 64; state = h 76; id = h 77; reload = h 78 } in
     next-by (λ (x : List ℕ). Bytes x) order d b
-    (λ c n. bytes-sets (c .state ∷ c .id ∷ c .reload ∷ []) b 76 h (small-next d (loadOf b) c hd k n))
+    (λ c n. bytes-sets b (c .state ∷ c .id ∷ c .reload ∷ []) 76 h (small-next d (loadOf b) c hd k n))
     (λ m v c q l n.
     let u = bytesOf 4 (written m (blockAt m b) v (getD b 78 0)) in
-    bytes-sets u (storeOf b c) (placeOf m) (bytes-sets (c .state ∷ c .id ∷ c .reload ∷ []) b 76 h (small-next d (loadOf b) c hd k n))
+    bytes-sets (storeOf b c) u (placeOf m) (bytes-sets b (c .state ∷ c .id ∷ c .reload ∷ []) 76 h (small-next d (loadOf b) c hd k n))
     (bytes-small 4 (written m (blockAt m b) v (getD b 78 0))))
 
 -- ---- byte 64 stays: of block 255 only the upper half is ever written
@@ -110,12 +104,12 @@ own-put n old v r x l e = ⊎-elim low high (below-or-not n 16)
     u = bytesOf 4 (written n old v r)
 
     low : n < 16 → getD (sets x (placeOf n) u) 64 0 ≡ getD x 64 0
-    low h = sets-off u x (placeOf n) 64 (inr (omega (arith, place-low n h, length-bytes 4 (written n old v r))))
+    low h = sets-off x u (placeOf n) 64 (inr (omega (arith, place-low n h, length-bytes 4 (written n old v r))))
 
     high : 16 ≤ n → getD (sets x (placeOf n) u) 64 0 ≡ getD x 64 0
     high h =
         rw (place-high n h)
-        (sets-first (written n old v r % 256) (bytesOf 3 (written n old v r / 256)) x 64 (omega arith)
+        (sets-on x u 64 0 (omega arith) (omega arith)
         ∙ rw (written-high n old v r h) (lock-low old v ∙ e h))
 
 pub own-stays : (order : Order) (d : ℕ) (b : List ℕ) → length b ≡ 80 → Bytes b → getD (nextChip order d b) 64 0 ≡ getD b 64 0

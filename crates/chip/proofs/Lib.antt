@@ -1,5 +1,4 @@
 -- The laws of a chip, for its own proofs and for those of the crates above.
-pub mod Bools
 pub mod Shapes
 pub mod Laid
 pub mod Steps

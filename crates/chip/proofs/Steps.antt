@@ -15,7 +15,7 @@ use Rattle.chip.specs.declared.step.Answer.the-variants as a
 use Rattle.chip.specs.declared.step.Work.the-variants as w
 use Rattle.chip.specs.declared.step.Stepped.{Stepped}
 use Rattle.chip.specs.Write.{locked, written, reloads}
-use Rattle.chip.proofs.Bools.{if-either, or-either, not-other}
+use Rattle.frame.proofs.Bools.{or-either, if-either, not-other}
 use Rattle.chip.specs.Step.{with, told, silent, chosen, off, on, initiate, pcall, marker, leave, select, read, uid, write, act}
 
 -- ---- the next chip

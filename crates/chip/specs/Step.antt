@@ -1,5 +1,5 @@
 -- Document 01, "Chips" and "Events": what a chip does with an order, and what it answers. d is the draw. Assumes nothing.
-use mathlib.Core.Bool.{Bool, not, _&&_, _||_}
+use mathlib.Core.Bool.{not, _||_}
 use Prim.Native.Nat.{ℕ, _+_, _*_, _/_, _%_}
 use lib.Dec.{eqb}
 use Rattle.frame.specs.Choose.{if_then_else_}
@@ -8,7 +8,6 @@ use Rattle.chip.specs.declared.request.Order.the-variants as o
 use Rattle.chip.specs.declared.step.Chip.{Chip}
 use Rattle.chip.specs.declared.step.Answer.{Answer}
 use Rattle.chip.specs.declared.step.Answer.the-variants as a
-use Rattle.chip.specs.declared.step.Work.{Work}
 use Rattle.chip.specs.declared.step.Work.the-variants as w
 use Rattle.chip.specs.declared.step.Stepped.{Stepped}
 use Rattle.chip.specs.Write.{locked, written, reloads}

@@ -11,9 +11,9 @@ use frame::verdict::offence;
 ghost use mathlib.Core.Path.{_≡_};
 ghost use mathlib.Core.Bool.{not, _&&_, _||_};
 ghost use lib.Dec.{eqb, ltb};
-ghost use Prim.Native.Nat.{_+_, _≤_};
+ghost use Prim.Native.Nat.{_≤_};
 ghost use lib.ListN.{length};
-ghost use Rattle.chip.specs.Body.{chipRules, loadOf, storeOf, placeOf, blockAt, named, worked, nextChip, saidChip};
+ghost use Rattle.chip.specs.Body.{chipRules, loadOf, storeOf, placeOf, named, worked, nextChip, saidChip};
 
 // In state 0 Chip_ID is 0.
 fn wrong_id(state: u8, id: u8) -> bool

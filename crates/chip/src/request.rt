@@ -3,7 +3,7 @@ use frame::check_sum::is_right;
 use frame::number::number_at;
 ghost use mathlib.Core.Path.{_≡_};
 ghost use Prim.Native.Nat.{_+_, _≤_};
-ghost use lib.ListN.{length, getD};
+ghost use lib.ListN.{length};
 ghost use Rattle.frame.specs.Number.{num, part};
 ghost use Rattle.chip.specs.Request.{listed, short, pair, long, decode, heard};
 

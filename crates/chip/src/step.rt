@@ -3,9 +3,8 @@ use crate::request::Order;
 ghost use mathlib.Core.Path.{_≡_};
 ghost use mathlib.Core.Bool.{_||_};
 ghost use lib.Dec.{eqb};
-ghost use Prim.Native.Nat.{_+_, _≤_, _<_};
 ghost use Rattle.chip.specs.Step.{silent, told, chosen, off, on, initiate, pcall, marker, select, leave, read, uid, write, act};
-ghost use Rattle.chip.specs.Write.{onlyDown, countDown, lockDown, locked, reloads, written};
+ghost use Rattle.chip.specs.Write.{countDown, lockDown, locked, reloads, written};
 
 // The part of a chip that steps: byte 64 is own.
 pub struct Chip {

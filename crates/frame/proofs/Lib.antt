@@ -8,7 +8,7 @@ pub mod Numbers
 pub mod CheckSumLaws
 pub mod Frames
 pub mod Endings
+pub mod Stores
 pub mod Puts
-pub mod Parts
 pub mod Verdicts
 pub mod Vectors

@@ -87,5 +87,16 @@ laid-seal start inv {xs} {n} {n′} {old} {now} {now′} l h e =
     laid-number 2 (crcWith start inv xs) l
     (e .0, e .1 ∙ ap (λ (t : List ℕ). sets now n (bytesOf 2 (crcWith start inv t))) (laid-take l h))
 
+-- k bytes put behind a front that is laid, and the check sum of all of it behind them
+pub laid-sealed : {n m r : ℕ} {old x y z : List ℕ} (start : ℕ) (inv : Bool) (front src : List ℕ) (k : ℕ) → k ≤ length src
+    → length front + k ≤ length old
+    → Laid front n old x
+    → (m ≡ n + k) × (y ≡ sets x n (take k src))
+    → (r ≡ m + 2) × (z ≡ sets y m (bytesOf 2 (crcWith start inv (take m y))))
+    → Laid (framedWith start inv (front ++ take k src)) r old z
+laid-sealed {old = old} start inv front src k h g l e f =
+    let t : length (front ++ take k src) ≤ length old = rw (length-append, length-take-le k src h) g in
+    laid-seal start inv (laid-bytes k src h l e) t f
+
 pub laid-done : {xs : List ℕ} {n : ℕ} {old now : List ℕ} → Laid xs n old now → length xs ≤ length old → now ≡ xs ++ drop (length xs) old
 laid-done {xs} {n} {old} {now} l h = l .is ∙ sets-front xs old h

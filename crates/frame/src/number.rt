@@ -1,8 +1,8 @@
 // Numbers from bytes, least significant first.
 ghost use mathlib.Core.Path.{_≡_};
-ghost use Prim.Native.Nat.{_+_, _≤_, _<_, _^_};
+ghost use Prim.Native.Nat.{_+_, _≤_};
 ghost use lib.ListN.{length, getD};
-ghost use Rattle.frame.specs.Number.{num, bytesOf, part};
+ghost use Rattle.frame.specs.Number.{num, part};
 
 // A byte as a wide number.
 pub fn wide(b: u8) -> u64

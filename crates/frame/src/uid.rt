@@ -3,10 +3,10 @@ use crate::number::number_at;
 use crate::number::number_of;
 use crate::number::wide;
 ghost use mathlib.Core.Path.{_≡_};
-ghost use Prim.Native.Nat.{_+_, _*_, _≤_, _<_, _^_, _/_, _%_};
+ghost use Prim.Native.Nat.{_+_, _≤_, _<_, _^_, _/_, _%_};
 ghost use lib.Dec.{eqb};
 ghost use lib.ListN.{length};
-ghost use Rattle.frame.specs.Number.{num, part, bytesOf};
+ghost use Rattle.frame.specs.Number.{num, part};
 ghost use Rattle.frame.specs.Ending.{endsIn, endsInSlot, longer, bytesFor, maskAt};
 
 // A UID as one number.

@@ -12,6 +12,7 @@ use Rattle.frame.specs.Number.{part}
 use Rattle.frame.specs.CheckSum.{framed}
 use Rattle.frame.proofs.Lists.{part-values}
 use Rattle.frame.proofs.Frames.{length-framed}
+use Rattle.frame.proofs.Stores.{length-part}
 use Rattle.label.specs.declared.request.Call.{Call}
 use Rattle.label.specs.declared.request.Request.{Request}
 use Rattle.label.specs.declared.step.Label.{Label}
@@ -21,10 +22,8 @@ use Rattle.label.specs.declared.step.Stepped.{Stepped}
 use Rattle.label.specs.Step.{ended}
 use Rattle.label.specs.Body.{loadOf, storeOf, worked, stepped, nextLabel, saidLabel, named, Sized, sizeOf, blockAt, lockAt}
 use Rattle.label.specs.Answer.{answerFrame, blockBytes, Told}
-use Rattle.label.proofs.Sets.{length-part}
 use Rattle.label.proofs.Room.{sized-long, block-fits, block-after}
 use Rattle.label.proofs.Stored.{stored-length, stored-between, stored-above, stored-uid, stored-numbers, stored-part, stored-place, stored-dsfid, stored-afi}
-use Rattle.label.proofs.Worked.{worked-below}
 use Rattle.label.proofs.Laying.{found-length, info-length}
 use Rattle.label.proofs.Ways.{Way, stays, offs, wakes, moves, starts, says, hushes, selects, readies, drops, writes, locks, afis, dsfids, afiLocks, dsfidLocks, way, Calm}
 
@@ -120,22 +119,6 @@ way-told b (dsfidLocks x) = tt
 pub told-of : (r : Request) (count : ℕ) (b : List ℕ) → Told (saidLabel r count b) b
 unfolding saidLabel stepped
 told-of r count b = way-told b (way r count (named (r .call) b) (loadOf b))
-
-told-same : (x : Answer) (b c : List ℕ) → getD c 11 0 ≡ getD b 11 0 → Told x b → Told x c
-unfolding Told
-told-same a.Silent b c e h = tt
-told-same (a.Error x) b c e h = tt
-told-same a.Done b c e h = tt
-told-same a.Found b c e h = tt
-told-same (a.Block n lock) b c e h = rw e h
-told-same a.Info b c e h = tt
-
-pub told-next : (r : Request) (bytes b : List ℕ) → Told (saidLabel r (length bytes) b) (nextLabel r bytes b)
-unfolding nextLabel
-told-next r bytes b =
-    let s = stepped r (length bytes) b in
-    let e = worked-below (s .work) bytes (storeOf b (s .next)) 11 (omega arith) ∙ stored-between b (s .next) 11 (omega arith) (omega arith) in
-    told-same (saidLabel r (length bytes) b) b (worked (s .work) bytes (storeOf b (s .next))) e (told-of r (length bytes) b)
 
 -- ---- frames are short
 

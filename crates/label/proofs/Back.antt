@@ -20,10 +20,8 @@ use Rattle.frame.proofs.Numbers.{length-bytes, num-bytes-lt}
 use Rattle.label.specs.declared.request.Target.the-variants.{Everyone, Selected, One}
 use Rattle.label.specs.declared.request.Family.{Family}
 use Rattle.label.specs.declared.request.Family.the-variants.{Any, Only}
-use Rattle.label.specs.declared.request.Order.the-variants as o
 use Rattle.label.specs.declared.request.Call.the-variants as k
-use Rattle.label.specs.Table.{table, lookup}
-use Rattle.label.specs.Request.{bare, most, masked, inventory, plain, checked, quiet, order, params, addressed, unaddressed, addressing, decode, dataOf}
+use Rattle.label.specs.Request.{bare, most, masked, inventory, order, params, addressed, unaddressed, addressing, decode, dataOf}
 
 -- ---- a frame's bytes
 
@@ -194,54 +192,3 @@ module _ (m e : ℕ) (h : e < 2 ^ m) where
       framed-read 54 1 (afi ∷ q) refl refl
       ∙ rw (byte-framed [] 54 (1 ∷ afi ∷ q) 0 refl, byte-framed (54 ∷ []) 1 (afi ∷ q) 1 refl, byte-framed (54 ∷ 1 ∷ []) afi q 2 refl)
       (masked-back m e h (54 ∷ 1 ∷ afi ∷ []) 3 refl (Only afi) false l)
-
--- ---- the order of each command, its parameters of right length
-
-pub order-02 : order 1 0x02 0 [] ≡ o.Quiet
-unfolding order quiet
-order-02 = refl
-
-pub order-25 : order 1 0x25 0 [] ≡ o.Select
-unfolding order checked plain lookup table
-order-25 = refl
-
-module _ (a : ℕ) where
-  pub order-20 : (n : ℕ) → order a 0x20 0 (n ∷ []) ≡ o.Read n false
-  unfolding order checked plain lookup table
-  order-20 n = refl
-
-  pub order-20-option : (n : ℕ) → order a 0x20 1 (n ∷ []) ≡ o.Read n true
-  unfolding order checked plain lookup table
-  order-20-option n = refl
-
-  pub order-21 : (opt n : ℕ) (d : List ℕ) → order a 0x21 opt (n ∷ d) ≡ o.Write n (set? opt)
-  unfolding order checked lookup table
-  order-21 opt n d = refl
-
-  pub order-22 : (n : ℕ) → order a 0x22 0 (n ∷ []) ≡ o.Lock n
-  unfolding order checked plain lookup table
-  order-22 n = refl
-
-  pub order-26 : order a 0x26 0 [] ≡ o.Ready
-  unfolding order checked plain lookup table
-  order-26 = refl
-
-  pub order-27 : (n : ℕ) → order a 0x27 0 (n ∷ []) ≡ o.WriteAfi n
-  unfolding order checked plain lookup table
-  order-27 n = refl
-
-  pub order-28 : order a 0x28 0 [] ≡ o.LockAfi
-  unfolding order checked plain lookup table
-  order-28 = refl
-
-  pub order-29 : (n : ℕ) → order a 0x29 0 (n ∷ []) ≡ o.WriteDsfid n
-  unfolding order checked plain lookup table
-  order-29 n = refl
-
-  pub order-2A : order a 0x2A 0 [] ≡ o.LockDsfid
-  unfolding order checked plain lookup table
-  order-2A = refl
-
-  pub order-2B : order a 0x2B 0 [] ≡ o.Info
-  unfolding order checked plain lookup table
-  order-2B = refl

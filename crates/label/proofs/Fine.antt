@@ -16,11 +16,11 @@ use Rattle.frame.specs.declared.verdict.Verdict.{Verdict}
 use Rattle.frame.specs.Choose.{if_then_else_}
 use Rattle.frame.specs.Number.{num, part, Bytes}
 use Rattle.frame.specs.Judge.{fine, bad, firstOf, byteVerdict}
+use Rattle.frame.proofs.Bools.{if-either, if-both}
 use Rattle.frame.proofs.Numbers.{bytes-part}
 use Rattle.frame.proofs.Verdicts.{if-fine, else-fine, not-none, first-none, first-suc, first-each, first-all, bytes-fine, bytes-good}
 use Rattle.label.specs.Body.{blocksOf, sizeOf, Sized, headRules, bitsRules, slotRules, over, maskVerdict, labelRules}
 use Rattle.label.specs.Facts.{LabelFine}
-use Rattle.label.proofs.Cases.{pick, both}
 use Rattle.label.proofs.Judging.{head-sized, head-long, head-fine, verdict-fine}
 
 -- ---- masks
@@ -227,42 +227,42 @@ first-place : (f : ℕ → Verdict) (k n : ℕ) → ((i : ℕ) → i < n → f i
 first-place f k zero h = rw (first-none f) (omega arith)
 first-place f k (suc n) h =
     rw (first-suc f n)
-    (both (Within k) (eqb (firstOf n f .number) 0) (h n (omega arith)) (first-place f k n (λ i l. h i (omega arith))))
+    (if-both (Within k) (eqb (firstOf n f .number) 0) (h n (omega arith)) (first-place f k n (λ i l. h i (omega arith))))
 
 byte-place : (b : List ℕ) (at most j k : ℕ) → at + j ≤ k → byteVerdict b at most j .place ≤ k
 unfolding byteVerdict
-byte-place b at most j k h = both (Within k) (ltb most (getD b (at + j) 0)) h (omega arith)
+byte-place b at most j k h = if-both (Within k) (ltb most (getD b (at + j) 0)) h (omega arith)
 
 mask-place : (b : List ℕ) (j k : ℕ) → 17 + j ≤ k → maskVerdict b j .place ≤ k
 unfolding maskVerdict
-mask-place b j k h = both (Within k) (over b j) h (omega arith)
+mask-place b j k h = if-both (Within k) (over b j) h (omega arith)
 
 head-place : (b : List ℕ) → headRules b .place ≤ 14
 unfolding headRules
 head-place b =
-    both (Within 14) (ltb 3 (getD b 10 0)) (omega arith)
-    (both (Within 14) (not (eqb (length b) (32 + blocksOf b + blocksOf b * sizeOf b))) (omega arith)
-    (both (Within 14) (ltb 31 (getD b 12 0)) (omega arith) (both (Within 14) (ltb 3 (getD b 14 0)) (omega arith) (omega arith))))
+    if-both (Within 14) (ltb 3 (getD b 10 0)) (omega arith)
+    (if-both (Within 14) (not (eqb (length b) (32 + blocksOf b + blocksOf b * sizeOf b))) (omega arith)
+    (if-both (Within 14) (ltb 31 (getD b 12 0)) (omega arith) (if-both (Within 14) (ltb 3 (getD b 14 0)) (omega arith) (omega arith))))
 
 slot-place : (b : List ℕ) → slotRules b .place ≤ 16
 unfolding slotRules bitsRules
 slot-place b =
-    both (Within 16) (eqb (getD b 15 0) 255) (both (Within 16) (not (eqb (getD b 16 0) 0)) (omega arith) (omega arith))
-    (both (Within 16) (ltb 15 (getD b 15 0)) (omega arith)
-    (both (Within 16) (not (eqb (getD b 14 0) 1) && not (eqb (getD b 14 0) 3)) (omega arith)
-    (both (Within 16) (ltb 60 (getD b 16 0)) (omega arith) (omega arith))))
+    if-both (Within 16) (eqb (getD b 15 0) 255) (if-both (Within 16) (not (eqb (getD b 16 0) 0)) (omega arith) (omega arith))
+    (if-both (Within 16) (ltb 15 (getD b 15 0)) (omega arith)
+    (if-both (Within 16) (not (eqb (getD b 14 0) 1) && not (eqb (getD b 14 0) 3)) (omega arith)
+    (if-both (Within 16) (ltb 60 (getD b 16 0)) (omega arith) (omega arith))))
 
 pub rules-place : (b : List ℕ) → length b ≤ 8480 → labelRules b .place ≤ 8480
 unfolding labelRules
 rules-place b h =
     let p : headRules b .place ≤ 14 = head-place b in
     let q : slotRules b .place ≤ 16 = slot-place b in
-    pick (Within 8480) (eqb (headRules b .number) 0) _ (headRules b)
+    if-either (Within 8480) (eqb (headRules b .number) 0) _ (headRules b)
     (λ e.
     let s : 32 + blocksOf b ≤ length b = head-long b (eqb-true (headRules b .number) 0 e) in
-    both (Within 8480) (eqb (slotRules b .number) 0)
-    (both (Within 8480) (eqb (firstOf 8 (maskVerdict b) .number) 0)
-    (both (Within 8480) (eqb (firstOf 7 (byteVerdict b 25 0) .number) 0)
+    if-both (Within 8480) (eqb (slotRules b .number) 0)
+    (if-both (Within 8480) (eqb (firstOf 8 (maskVerdict b) .number) 0)
+    (if-both (Within 8480) (eqb (firstOf 7 (byteVerdict b 25 0) .number) 0)
     (first-place (byteVerdict b 32 1) 8480 (blocksOf b) (λ i l. byte-place b 32 1 i 8480 (omega arith)))
     (first-place (byteVerdict b 25 0) 8480 7 (λ i l. byte-place b 25 0 i 8480 (omega arith))))
     (first-place (maskVerdict b) 8480 8 (λ i l. mask-place b i 8480 (omega arith))))

@@ -1,6 +1,7 @@
 -- What the hospital's floor asked of a label, over any request: the UID and the numbers stay, what is locked stays, a label that is quiet or off keeps still.
 -- By the ways of the step. Assumes nothing.
 use mathlib.Core.Path.{_≡_, refl, sym, ap, _∙_}
+use mathlib.Core.Logic.{inl, inr}
 use mathlib.Core.Bool.{Bool, true, false}
 use mathlib.Core.List.{List, [], _∷_}
 use Prim.Native.Nat.{ℕ, _+_, _/_, _%_, _^_, _≤_, _<_}
@@ -11,6 +12,7 @@ use lib.Seq.{sets, getD-set-same, getD-set-other}
 use borrow.Author.Tests.{eqb-true, eqb-false, ne-eqb, ltb-true, ltb-false}
 use Rattle.frame.specs.Choose.{if_then_else_, bit}
 use Rattle.frame.specs.Number.{num, part, Bytes}
+use Rattle.frame.proofs.Stores.{sets-off, part-off}
 use Rattle.label.specs.declared.request.Target.{Target}
 use Rattle.label.specs.declared.request.Target.the-variants as t
 use Rattle.label.specs.declared.request.Family.{Family}
@@ -26,7 +28,6 @@ use Rattle.label.specs.declared.step.Stepped.{Stepped}
 use Rattle.label.specs.Step.{withState, ended, silent, refused, ready, inventory, acts, perform, passed, asked, called, act}
 use Rattle.label.specs.Body.{loadOf, storeOf, worked, stepped, nextLabel, saidLabel, named, Sized, blocksOf, sizeOf, blockAt, lockAt}
 use Rattle.label.specs.Slots.{clear}
-use Rattle.label.proofs.Sets.{getD-sets-below, part-sets-below, part-sets-above}
 use Rattle.label.proofs.Room.{lock-fits, lock-before, block-next, block-after}
 use Rattle.label.proofs.Stored.{stored-between, stored-above, stored-uid, stored-part, stored-place, stored-sized, stored-dsfid, stored-afi, stored-locks, stored-state, store-load}
 use Rattle.label.proofs.Worked.{worked-below, worked-part}
@@ -85,19 +86,19 @@ block-stays (w.Write m) n bytes b h g = go (ltb m n) refl
     go : (t : Bool) → ltb m n ≡ t → part (blockAt b n) (sizeOf b) (sets b (blockAt b m) bytes) ≡ part (blockAt b n) (sizeOf b) b
     go true e =
         let i : blockAt b m + length bytes ≤ blockAt b n = rw (g .1) (block-next b m n (ltb-true m n e)) in
-        part-sets-above b bytes (blockAt b m) (blockAt b n) (sizeOf b) i
+        part-off b bytes (blockAt b m) (blockAt b n) (sizeOf b) (inr i)
     go false e =
         let j = ltb-false m n e in
         let d : n ≡ m → ⊥ = λ q. g .0 (sym q) in
         let i : n < m = omega arith in
-        part-sets-below b bytes (blockAt b m) (blockAt b n) (sizeOf b) (block-next b n m i)
+        part-off b bytes (blockAt b m) (blockAt b n) (sizeOf b) (inl (block-next b n m i))
 block-stays (w.Lock m) n bytes b h g =
-    part-sets-above b (1 ∷ []) (lockAt m) (blockAt b n) (sizeOf b) (omega (arith, lock-before b m n g))
+    part-off b (1 ∷ []) (lockAt m) (blockAt b n) (sizeOf b) (inr (omega (arith, lock-before b m n g)))
 
 locks-stay : (x : Work) (n : ℕ) (bytes b : List ℕ) → Sized b → n < blocksOf b → getD b (lockAt n) 0 ≡ 1 → getD (worked x bytes b) (lockAt n) 0 ≡ 1
 unfolding worked
 locks-stay w.Nothing n bytes b s h e = e
-locks-stay (w.Write m) n bytes b s h e = getD-sets-below b bytes (blockAt b m) (lockAt n) (lock-before b n m (omega arith)) ∙ e
+locks-stay (w.Write m) n bytes b s h e = sets-off b bytes (blockAt b m) (lockAt n) (inl (lock-before b n m (omega arith))) ∙ e
 locks-stay (w.Lock m) n bytes b s h e = go (eqb m n) refl
   where
     go : (t : Bool) → eqb m n ≡ t → getD (set b (lockAt m) 1) (lockAt n) 0 ≡ 1

@@ -6,41 +6,27 @@ use mathlib.Core.List.{List, [], _∷_, _++_}
 use Prim.Native.Nat.{ℕ, _+_, _-_, _≤_}
 use native.Mathlib.Omega.{arith}
 use lib.ListN.{length, getD, take, drop, length-append, length-drop}
-use lib.Seq.{sets, length-take-le, take-take}
-use Rattle.frame.specs.Number.{bytesOf, part}
-use Rattle.frame.specs.CheckSum.{crcOf, framed}
+use lib.Seq.{length-take-le}
+use Rattle.frame.specs.Number.{part}
+use Rattle.frame.specs.CheckSum.{framed}
 use Rattle.label.specs.declared.step.Answer.the-variants as a
 use Rattle.label.specs.Body.{Sized, blockAt, sizeOf}
 use Rattle.label.specs.Answer.{blockBytes, answerFrame}
-use Rattle.label.proofs.Sets.{length-part}
 use Rattle.label.proofs.Room.{block-fits}
 use Rattle.frame.proofs.Frames.{length-framed}
-use Rattle.frame.proofs.Puts.{Laid, laid-bytes, laid-seal}
-
-pub put-sealed : {n m r : ℕ} {old x y z : List ℕ} (front src : List ℕ) (k : ℕ) → k ≤ length src → length front + k + 2 ≤ length old
-    → Laid front n old x
-    → (m ≡ n + k) × (y ≡ sets x n (take k src))
-    → (r ≡ m + 2) × (z ≡ sets y m (bytesOf 2 (crcOf (take m y))))
-    → Laid (framed (front ++ take k src)) r old z
-put-sealed {old = old} front src k h g l e f =
-    let t : length (front ++ take k src) ≤ length old = rw (length-append, length-take-le k src h) (omega arith) in
-    laid-seal 0xFFFF true (laid-bytes k src h l e) t f
-
--- the bytes from at to end, and all of them taken
-pub whole-part : (b : List ℕ) (at end k : ℕ) → end ≡ at + k → take k (take (end - at) (drop at b)) ≡ part at k b
-whole-part b at end k e = let d : end - at ≡ k = omega arith in rw d (take-take k k (drop at b) (omega arith))
+use Rattle.frame.proofs.Stores.{length-part, part-whole}
 
 -- a block as it is read: with its lock byte or without
 module _ (b : List ℕ) (n : ℕ) (at end : ℕ) (p : at ≡ blockAt b n) (q : end ≡ at + sizeOf b) where
   pub block-locked : (lock : Bool) → lock ≡ true
       → framed ((0 ∷ getD b (32 + n) 0 ∷ []) ++ take (sizeOf b) (take (end - at) (drop at b))) ≡ answerFrame (a.Block n lock) b
   unfolding answerFrame blockBytes
-  block-locked lock e = rw (e, whole-part b at end (sizeOf b) q, p)
+  block-locked lock e = rw (e, part-whole b at end (sizeOf b) q, p)
 
   pub block-plain : (lock : Bool) → lock ≡ false
       → framed ((0 ∷ []) ++ take (sizeOf b) (take (end - at) (drop at b))) ≡ answerFrame (a.Block n lock) b
   unfolding answerFrame blockBytes
-  block-plain lock e = rw (e, whole-part b at end (sizeOf b) q, p)
+  block-plain lock e = rw (e, part-whole b at end (sizeOf b) q, p)
 
   -- it lies inside
   module _ (s : Sized b) (h : n ≤ getD b 11 0) where

@@ -1,5 +1,4 @@
 -- The laws of the crate's definitions, for its own proofs and for those of the crates above.
-pub mod Cases
 pub mod Lookup
 pub mod Requests
 pub mod Judging
@@ -7,7 +6,6 @@ pub mod Decoded
 pub mod Fine
 pub mod Back
 pub mod Others
-pub mod Sets
 pub mod Room
 pub mod Stored
 pub mod Laying

@@ -1,6 +1,7 @@
 -- A label through the slots of a sixteen-slot Inventory: the step on its body is `seek`, ten bytes anew, so slot s is `during .. s`.
 -- Well-formedness is needed where a label in state 0 is left alone: it has no slot already. Assumes nothing.
 use mathlib.Core.Path.{_≡_, refl, sym, ap, ap₂, _∙_}
+use mathlib.Core.Logic.{inl}
 use mathlib.Core.Bool.{Bool, true, false, _&&_, _||_, false≢true}
 use mathlib.Core.List.{List, _∷_}
 use Prim.Native.Nat.{ℕ, suc, _+_, _^_, _≤_, _<_}
@@ -14,8 +15,9 @@ use Rattle.frame.specs.Choose.{if_then_else_}
 use Rattle.frame.specs.Number.{num, bytesOf, part, Bytes}
 use Rattle.frame.specs.CheckSum.{framed}
 use Rattle.frame.specs.Ending.{endsInSlot}
-use Rattle.frame.proofs.Bools.{and-both}
+use Rattle.frame.proofs.Bools.{and-both, if-both, if-same}
 use Rattle.frame.proofs.Numbers.{bytes-small}
+use Rattle.frame.proofs.Stores.{sets-off, part-off, sets-over, bytes-cons, bytes-sets}
 use Rattle.label.specs.declared.request.Family.{Family}
 use Rattle.label.specs.declared.request.Call.the-variants as k
 use Rattle.label.specs.declared.request.Request.{Request}
@@ -28,7 +30,6 @@ use Rattle.label.specs.Body.{loadOf, storeOf, worked, stepped, nextLabel
 use Rattle.label.specs.Answer.{answerFrame}
 use Rattle.label.specs.Facts.{LabelFine}
 use Rattle.label.specs.Slots.{on, seek, clear, during}
-use Rattle.label.proofs.Sets.{getD-sets-below, part-sets-below, sets-over, bytes-sets, bytes-cons}
 use Rattle.label.proofs.Room.{sized-long}
 use Rattle.label.proofs.Stored.{load-store, store-load, store-seek, seek-own}
 use Rattle.label.proofs.Keeps.{proper-idle, proper-slot, load-proper, mask-fits, stored-fine}
@@ -42,11 +43,11 @@ module _ (s m e : ℕ) (b : List ℕ) where
 
   pub seek-getD : (j : ℕ) → j < 15 → getD (seek s m e b) j 0 ≡ getD b j 0
   unfolding seek
-  seek-getD j h = getD-sets-below b (s ∷ m ∷ bytesOf 8 e) 15 j h
+  seek-getD j h = sets-off b (s ∷ m ∷ bytesOf 8 e) 15 j (inl h)
 
   pub seek-uid : part 0 8 (seek s m e b) ≡ part 0 8 b
   unfolding seek
-  seek-uid = part-sets-below b (s ∷ m ∷ bytesOf 8 e) 15 0 8 (omega arith)
+  seek-uid = part-off b (s ∷ m ∷ bytesOf 8 e) 15 0 8 (inl (omega arith))
 
   pub seek-seek : (s′ m′ e′ : ℕ) → seek s′ m′ e′ (seek s m e b) ≡ seek s′ m′ e′ b
   unfolding seek
@@ -153,11 +154,7 @@ end-last l h g = rw (h, g)
 
 end-none : (l : Label) → l .slot ≡ 255 → awake (endOfFrame l) l ≡ silent l
 unfolding endOfFrame
-end-none l g = rw (le-ltb (l .slot) 15 (omega arith), ne-eqb (l .slot) 15 (λ z. omega arith)) (go (eqb (l .state) 0))
-  where
-    go : (t : Bool) → (if t then silent l else silent l) ≡ silent l
-    go true = refl
-    go false = refl
+end-none l g = rw (le-ltb (l .slot) 15 (omega arith), ne-eqb (l .slot) 15 (λ z. omega arith)) (if-same (eqb (l .state) 0) (silent l))
 
 module _ (s m e : ℕ) (b : List ℕ) (long : 25 ≤ length b) (he : e < 256 ^ 8) (n : ℕ) where
   -- a label in slot s, at an end of frame
@@ -197,28 +194,13 @@ module _ (family : Family) (m e s : ℕ) (b : List ℕ) where
   -- a law of a body in a slot is one of either
   during-both : (P : List ℕ → Type 0) → P (seek s m e b) → P (clear b) → P (during family m e s b)
   unfolding during
-  during-both P x y = go (on family b)
-    where
-      go : (t : Bool) → P (if t then seek s m e b else clear b)
-      go true = x
-      go false = y
+  during-both P x y = if-both P (on family b) x y
 
   pub during-uid : part 0 8 (during family m e s b) ≡ part 0 8 b
   during-uid = during-both (λ x. part 0 8 x ≡ part 0 8 b) (seek-uid s m e b) (clear-uid b)
 
   pub during-length : length (during family m e s b) ≡ length b
   during-length = during-both (λ x. length x ≡ length b) (seek-length s m e b) (clear-length b)
-
-  pub during-clear : during family m e s (clear b) ≡ during family m e s b
-  unfolding during clear
-  during-clear = rw (on-seek family 255 0 0 b, seek-seek 255 0 0 b s m e, seek-seek 255 0 0 b 255 0 0)
-
-  clear-seek : clear (seek s m e b) ≡ clear b
-  unfolding clear
-  clear-seek = seek-seek s m e b 255 0 0
-
-  pub clear-during : clear (during family m e s b) ≡ clear b
-  clear-during = during-both (λ x. clear x ≡ clear b) clear-seek (clear-clear b)
 
 -- a label in state 0 is clear
 pub clear-own : (b : List ℕ) → Bytes b → LabelFine b → getD b 14 0 ≡ 0 → clear b ≡ b

@@ -1,6 +1,7 @@
--- What a label written into a body leaves and reads: three runs of stores (8 to 10, 14 to 16, 17 to 24), each read by `Sets`.
+-- What a label written into a body leaves and reads: three runs of stores (8 to 10, 14 to 16, 17 to 24), each read by the laws of runs.
 -- Assumes nothing.
 use mathlib.Core.Path.{_≡_, sym, ap, _∙_}
+use mathlib.Core.Logic.{inl, inr}
 use mathlib.Core.List.{List, [], _∷_}
 use Prim.Native.Nat.{ℕ, _+_, _^_, _≤_, _<_}
 use native.Mathlib.Omega.{arith}
@@ -8,11 +9,11 @@ use lib.ListN.{length, getD, set}
 use lib.Seq.{sets, length-sets, set-getD}
 use Rattle.frame.specs.Number.{num, bytesOf, part, Bytes}
 use Rattle.frame.proofs.Numbers.{num-bytes-lt, bytes-num, bytes-part, bytes-small}
+use Rattle.frame.proofs.Stores.{sets-off, sets-on, length-part, part-ext, part-on, sets-own, bytes-three, bytes-sets}
 use Rattle.label.specs.declared.step.Label.{Label}
 use Rattle.label.specs.Step.{label, withSlot}
 use Rattle.label.specs.Slots.{seek}
 use Rattle.label.specs.Body.{loadOf, storeOf, Sized, blockAt}
-use Rattle.label.proofs.Sets.{getD-sets-below, getD-sets-above, getD-sets-in, part-ext, part-sets-in, sets-own, length-part, bytes-sets, bytes-cons, bytes-nil}
 
 -- the three runs
 abbrev low : Label → List ℕ
@@ -40,23 +41,23 @@ module _ (b : List ℕ) (l : Label) where
   pub stored-below : (j : ℕ) → j < 8 → getD (storeOf b l) j 0 ≡ getD b j 0
   unfolding storeOf
   stored-below j h =
-      getD-sets-below (two b l) (high l) 17 j (omega arith)
-      ∙ getD-sets-below (one b l) (mid l) 14 j (omega arith)
-      ∙ getD-sets-below b (low l) 8 j (omega arith)
+      sets-off (two b l) (high l) 17 j (inl (omega arith))
+      ∙ sets-off (one b l) (mid l) 14 j (inl (omega arith))
+      ∙ sets-off b (low l) 8 j (inl (omega arith))
 
   pub stored-between : (j : ℕ) → 11 ≤ j → j < 14 → getD (storeOf b l) j 0 ≡ getD b j 0
   unfolding storeOf
   stored-between j h g =
-      getD-sets-below (two b l) (high l) 17 j (omega arith)
-      ∙ getD-sets-below (one b l) (mid l) 14 j (omega arith)
-      ∙ getD-sets-above b (low l) 8 j (omega arith)
+      sets-off (two b l) (high l) 17 j (inl (omega arith))
+      ∙ sets-off (one b l) (mid l) 14 j (inl (omega arith))
+      ∙ sets-off b (low l) 8 j (inr (omega arith))
 
   pub stored-above : (j : ℕ) → 25 ≤ j → getD (storeOf b l) j 0 ≡ getD b j 0
   unfolding storeOf
   stored-above j h =
-      getD-sets-above (two b l) (high l) 17 j (omega arith)
-      ∙ getD-sets-above (one b l) (mid l) 14 j (omega arith)
-      ∙ getD-sets-above b (low l) 8 j (omega arith)
+      sets-off (two b l) (high l) 17 j (inr (omega arith))
+      ∙ sets-off (one b l) (mid l) 14 j (inr (omega arith))
+      ∙ sets-off b (low l) 8 j (inr (omega arith))
 
   pub stored-uid : part 0 8 (storeOf b l) ≡ part 0 8 b
   stored-uid = part-ext 0 8 (storeOf b l) b stored-length (λ j h. stored-below (0 + j) (omega arith))
@@ -87,15 +88,15 @@ module _ (b : List ℕ) (l : Label) where
     stored-low : (k : ℕ) → k < 3 → getD (storeOf b l) (8 + k) 0 ≡ getD (low l) k 0
     unfolding storeOf
     stored-low k h =
-        getD-sets-below (two b l) (high l) 17 (8 + k) (omega arith)
-        ∙ getD-sets-below (one b l) (mid l) 14 (8 + k) (omega arith)
-        ∙ getD-sets-in b (low l) 8 k h (omega arith)
+        sets-off (two b l) (high l) 17 (8 + k) (inl (omega arith))
+        ∙ sets-off (one b l) (mid l) 14 (8 + k) (inl (omega arith))
+        ∙ sets-on b (low l) 8 k h (omega arith)
 
     stored-mid : (k : ℕ) → k < 3 → getD (storeOf b l) (14 + k) 0 ≡ getD (mid l) k 0
     unfolding storeOf
     stored-mid k h =
-        getD-sets-below (two b l) (high l) 17 (14 + k) (omega arith)
-        ∙ getD-sets-in (one b l) (mid l) 14 k h (omega (arith, long-one))
+        sets-off (two b l) (high l) 17 (14 + k) (inl (omega arith))
+        ∙ sets-on (one b l) (mid l) 14 k h (omega (arith, long-one))
 
     pub stored-dsfid : getD (storeOf b l) 8 0 ≡ l .dsfid
     stored-dsfid = stored-low 0 (omega arith)
@@ -117,7 +118,7 @@ module _ (b : List ℕ) (l : Label) where
 
     pub stored-bytes : part 17 8 (storeOf b l) ≡ bytesOf 8 (l .mask)
     unfolding storeOf
-    stored-bytes = part-sets-in (two b l) (high l) 17 (omega (arith, long-two))
+    stored-bytes = part-on (two b l) (high l) 17 (omega (arith, long-two))
 
     pub stored-mask : l .mask < 256 ^ 8 → num (part 17 8 (storeOf b l)) ≡ l .mask
     stored-mask h = ap num stored-bytes ∙ num-bytes-lt 8 (l .mask) h
@@ -172,9 +173,6 @@ unfolding loadOf
 store-load b f h = store-seek b (getD b 15 0) (getD b 16 0) (num (part 17 8 b)) ∙ seek-own b f h
 
 -- bytes stay bytes
-bytes-three : (x y z : ℕ) → x < 256 → y < 256 → z < 256 → Bytes (x ∷ y ∷ z ∷ [])
-bytes-three x y z f g h = bytes-cons x (y ∷ z ∷ []) f (bytes-cons y (z ∷ []) g (bytes-cons z [] h bytes-nil))
-
 pub stored-all : (b : List ℕ) (l : Label) → Bytes b → l .dsfid < 256 → l .afi < 256 → l .locks < 256 → l .state < 256 → l .slot < 256 → l .bits < 256
     → Bytes (storeOf b l)
 unfolding storeOf

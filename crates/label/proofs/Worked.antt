@@ -1,16 +1,17 @@
 -- What the work of a step leaves: a block and a lock byte stand behind the first 32 bytes, and blocks behind lock bytes.
 -- Assumes nothing.
 use mathlib.Core.Path.{_≡_, refl}
+use mathlib.Core.Logic.{inl}
 use mathlib.Core.List.{List, [], _∷_}
 use Prim.Native.Nat.{ℕ, zero, suc, _+_, _≤_, _<_}
 use native.Mathlib.Omega.{arith}
 use lib.ListN.{length, getD, set, length-set}
 use lib.Seq.{length-sets, getD-set-other}
 use Rattle.frame.specs.Number.{part, Bytes}
+use Rattle.frame.proofs.Stores.{sets-off, part-ext, bytes-set, bytes-sets}
 use Rattle.label.specs.declared.step.Work.{Work}
 use Rattle.label.specs.declared.step.Work.the-variants as w
 use Rattle.label.specs.Body.{worked, blockAt, lockAt, Sized, blocksOf}
-use Rattle.label.proofs.Sets.{getD-sets-below, part-ext, bytes-set, bytes-sets}
 use Rattle.label.proofs.Room.{block-after, lock-before}
 
 pub worked-length : (x : Work) (bytes b : List ℕ) → length (worked x bytes b) ≡ length b
@@ -22,7 +23,7 @@ worked-length (w.Lock n) bytes b = length-set b (lockAt n) 1
 pub worked-below : (x : Work) (bytes b : List ℕ) (j : ℕ) → j < 32 → getD (worked x bytes b) j 0 ≡ getD b j 0
 unfolding worked
 worked-below w.Nothing bytes b j h = refl
-worked-below (w.Write n) bytes b j h = let g = block-after b n in getD-sets-below b bytes (blockAt b n) j (omega arith)
+worked-below (w.Write n) bytes b j h = let g = block-after b n in sets-off b bytes (blockAt b n) j (inl (omega arith))
 worked-below (w.Lock n) bytes b j h = getD-set-other b (lockAt n) j 1 0 (λ e. omega arith)
 
 pub worked-part : (x : Work) (bytes b : List ℕ) (p k : ℕ) → p + k ≤ 32 → part p k (worked x bytes b) ≡ part p k b
@@ -44,7 +45,7 @@ set-le (y ∷ ys) (suc i) x m (suc j) h g = set-le ys i x m j h g
 pub worked-locks : (x : Work) (bytes b : List ℕ) (j : ℕ) → j < blocksOf b → getD b (32 + j) 0 ≤ 1 → getD (worked x bytes b) (32 + j) 0 ≤ 1
 unfolding worked
 worked-locks w.Nothing bytes b j h g = g
-worked-locks (w.Write n) bytes b j h g = rw (getD-sets-below b bytes (blockAt b n) (32 + j) (lock-before b j n (omega arith))) g
+worked-locks (w.Write n) bytes b j h g = rw (sets-off b bytes (blockAt b n) (32 + j) (inl (lock-before b j n (omega arith)))) g
 worked-locks (w.Lock n) bytes b j h g = set-le b (lockAt n) 1 1 (32 + j) (omega arith) g
 
 pub worked-bytes : (x : Work) (bytes b : List ℕ) → Bytes bytes → Bytes b → Bytes (worked x bytes b)

@@ -1,6 +1,6 @@
 -- Document 01, "Rack file": the label body, 32 bytes, one lock byte a block, the blocks; its rules and the step on it. Assumes nothing.
 use mathlib.Core.Path.{_≡_}
-use mathlib.Core.Bool.{Bool, true, false, not, _&&_, _||_}
+use mathlib.Core.Bool.{Bool, not, _&&_}
 use mathlib.Core.List.{List, [], _∷_}
 use Prim.Native.Nat.{ℕ, _+_, _-_, _*_, _^_, _≤_}
 use lib.Dec.{eqb, ltb, leb}

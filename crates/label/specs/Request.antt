@@ -1,8 +1,8 @@
 -- Document 01, "Labels" and "Events": what an event asks of labels, whatever the label. Assumes nothing.
 use mathlib.Core.Bool.{Bool, true, false, not, _&&_, _||_}
-use mathlib.Core.List.{List, [], _∷_}
+use mathlib.Core.List.{List}
 use Prim.Native.Nat.{ℕ, _+_, _-_, _^_, _≤_, _<_}
-use lib.Dec.{eqb, ltb, leb}
+use lib.Dec.{eqb, ltb}
 use lib.ListN.{length, getD, replicate}
 use Rattle.frame.specs.Choose.{if_then_else_, bit, set?}
 use Rattle.frame.specs.Number.{part}
@@ -11,7 +11,6 @@ use Rattle.frame.specs.Ending.{bytesFor, maskAt}
 use Rattle.label.specs.Table.{table, lookup}
 use Rattle.label.specs.declared.table.Found.{Found}
 use Rattle.label.specs.declared.table.Found.the-variants.{Entry, Missing}
-use Rattle.label.specs.declared.request.Target.{Target}
 use Rattle.label.specs.declared.request.Target.the-variants.{Everyone, Selected, One}
 use Rattle.label.specs.declared.request.Family.{Family}
 use Rattle.label.specs.declared.request.Family.the-variants.{Any, Only}

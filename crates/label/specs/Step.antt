@@ -1,7 +1,7 @@
 -- Document 01, "Labels" and "Events": what a label does with a request, and what it answers. Assumes nothing.
-use mathlib.Core.Bool.{Bool, true, false, not, _&&_, _||_}
+use mathlib.Core.Bool.{Bool, true, not, _&&_, _||_}
 use mathlib.Core.List.{List}
-use Prim.Native.Nat.{ℕ, _+_, _/_, _%_}
+use Prim.Native.Nat.{ℕ, _+_}
 use lib.Dec.{eqb, ltb}
 use Rattle.frame.specs.Choose.{if_then_else_, bit, set?}
 use Rattle.frame.specs.Number.{num}
@@ -18,7 +18,6 @@ use Rattle.label.specs.declared.request.Request.{Request}
 use Rattle.label.specs.declared.step.Label.{Label}
 use Rattle.label.specs.declared.step.Answer.{Answer}
 use Rattle.label.specs.declared.step.Answer.the-variants as a
-use Rattle.label.specs.declared.step.Work.{Work}
 use Rattle.label.specs.declared.step.Work.the-variants as w
 use Rattle.label.specs.declared.step.Stepped.{Stepped}
 

@@ -4,14 +4,11 @@ use crate::step::Answer;
 use frame::check_sum::seal;
 use frame::put::put_bytes;
 ghost use mathlib.Core.Path.{_≡_};
-ghost use mathlib.Core.List.{[], _∷_, _++_};
-ghost use Prim.Native.Nat.{_+_, _≤_};
+ghost use Prim.Native.Nat.{_≤_};
 ghost use lib.ListN.{length, getD};
 ghost use lib.Seq.{sets};
-ghost use Rattle.frame.specs.Number.{part};
-ghost use Rattle.frame.specs.CheckSum.{framed};
 ghost use Rattle.label.specs.Body.{Sized};
-ghost use Rattle.label.specs.Answer.{speaks, Told, blockBytes, answerFrame};
+ghost use Rattle.label.specs.Answer.{speaks, Told, answerFrame};
 
 // Whether there is an answer.
 pub fn speaking(a: Answer) -> bool

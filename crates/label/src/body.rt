@@ -11,8 +11,8 @@ use frame::put::put_bytes;
 use frame::put::put_number;
 use frame::uid::uid_at;
 ghost use mathlib.Core.Path.{_≡_};
-ghost use Prim.Native.Nat.{_+_, _≤_};
-ghost use lib.ListN.{length, getD};
+ghost use Prim.Native.Nat.{_≤_};
+ghost use lib.ListN.{length};
 ghost use Rattle.label.specs.Body.{Sized, Fits, loadOf, storeOf, blockAt, lockOf, named, worked, nextLabel, saidLabel};
 
 // The label that a body holds.

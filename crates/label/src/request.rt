@@ -6,9 +6,8 @@ use frame::number::byte_at;
 use frame::uid::mask_at;
 use frame::uid::uid_at;
 ghost use mathlib.Core.Path.{_≡_};
-ghost use mathlib.Core.Bool.{Bool};
-ghost use Prim.Native.Nat.{ℕ, _+_, _≤_, _<_};
-ghost use lib.ListN.{length, getD};
+ghost use Prim.Native.Nat.{_≤_, _<_};
+ghost use lib.ListN.{length};
 ghost use Rattle.label.specs.Table.{table, lookup};
 ghost use Rattle.label.specs.Request.{bare, addressing, nothing, most, masked, inventory, plain, checked, quiet, order, addressed, unaddressed, decode, heard, dataOf};
 

@@ -8,7 +8,6 @@ use frame::uid::ends_in;
 use frame::uid::ends_in_slot;
 use frame::uid::same_uid;
 ghost use mathlib.Core.Path.{_≡_};
-ghost use Prim.Native.Nat.{_+_, _≤_};
 ghost use Rattle.label.specs.Step.{told, withSlot, awake, silent, done, refused, off, on, ended, passes, ready, turn, inventory, endOfFrame, acts, perform, passed, asked, act, readBlock, writeBlock, lockBlock, writeAfi, lockAfi, writeDsfid, lockDsfid, withState};
 
 // The part of a label that steps: its body's first 25 bytes.

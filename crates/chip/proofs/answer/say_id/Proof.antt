@@ -1,11 +1,12 @@
 -- One byte at the front, and its check sum behind it.
 -- Assumes nothing.
 use mathlib.Core.Path.{_∙_, refl}
-use mathlib.Core.List.{List, [], _∷_}
-use Prim.Native.Nat.{ℕ}
+use mathlib.Core.Bool.{true}
+use mathlib.Core.List.{[], _∷_}
+use native.Mathlib.Omega.{arith}
 use denote.Ref.{now}
 use lib.ListN.{length-set}
-use Rattle.chip.proofs.Laid.{sealed}
+use Rattle.frame.proofs.Puts.{laid-seal}
 use borrow.Author.Needs.{needs}
 use Rattle.chip.proofs.answer.say_id.Statement.{statement}
 use Rattle.chip.proofs.answer.say_id.Tie as tie
@@ -19,5 +20,5 @@ say-id-spec =
     (λ c. c .before .before .seal .kept .0 ∙ simp length-set)
     (λ c. let s = c .before .before in
     let a = c .before .before .before .before .before in
-    let x : List ℕ = a .args .id ∷ [] in
-    sealed x (now (a .args .out)) _ _ 1 _ (a .pre) refl refl (s .seal .ensures)))
+    let l = laid-seal 0xFFFF true {xs = a .args .id ∷ []} {old = now (a .args .out)} (record { long = refl; is = refl }) (omega (arith, a .pre)) (s .seal .ensures) in
+    (s .seal .ensures .0, l .is)))

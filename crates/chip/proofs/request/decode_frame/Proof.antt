@@ -1,12 +1,13 @@
 -- A ladder of tests; the check sum is tested by the callee. Where the length is none of the three, a right frame is ignored as a wrong one is.
 -- Assumes nothing.
 use mathlib.Core.Path.{_∙_, sym}
+use mathlib.Core.Bool.{not}
 use denote.Ref.{now}
 use borrow.Author.Tests.{eq-eqb, ne-eqb}
 use Rattle.frame.specs.CheckSum.{right}
 use Rattle.chip.specs.declared.request.Order.the-variants.{Ignored}
 use Rattle.chip.specs.Request.{decode}
-use Rattle.chip.proofs.Bools.{either-way}
+use Rattle.frame.proofs.Bools.{if-same}
 use borrow.Author.Needs.{needs}
 use Rattle.chip.proofs.request.decode_frame.Statement.{statement}
 use Rattle.chip.proofs.request.decode_frame.Tie as tie
@@ -34,4 +35,4 @@ decode-frame-spec =
     (λ c κs. search needs)
     (λ c. c .long-order .ensures ∙ rw (c .before .word-at .ensures, ne-eqb _ _ (c .before .before .before .before .before .before .before .before .if1 .left), ne-eqb _ _ (c .before .before .before .before .before .before .before .if3 .left), eq-eqb _ _ (c .before .before .before .before .before .before .if5 .taken), sym (c .before .before .before .before .before .is-right3 .ensures) ∙ c .before .before .before .before .if6 .taken))
     (λ c. rw (sym (c .before .is-right3 .ensures) ∙ c .if6 .left))
-    (λ c. rw (ne-eqb _ _ (c .before .before .if1 .left), ne-eqb _ _ (c .before .if3 .left), ne-eqb _ _ (c .if5 .left)) (either-way (right (now (c .before .before .before .before .args .f))) Ignored)))
+    (λ c. rw (ne-eqb _ _ (c .before .before .if1 .left), ne-eqb _ _ (c .before .if3 .left), ne-eqb _ _ (c .if5 .left)) (sym (if-same (not (right (now (c .before .before .before .before .args .f)))) Ignored))))

@@ -1,6 +1,7 @@
 -- The front, the block and the check sum are laid one behind the other; the block lies inside the body.
 -- Assumes nothing.
 use mathlib.Core.Path.{refl, ap, _∙_}
+use mathlib.Core.Bool.{true}
 use mathlib.Core.List.{[], _∷_}
 use Prim.Native.Nat.{_+_, _-_}
 use native.Mathlib.Omega.{arith}
@@ -10,7 +11,8 @@ use lib.Seq.{sets}
 use borrow.Author.Needs.{needs}
 use Rattle.label.specs.Body.{sizeOf}
 use Rattle.label.proofs.Room.{sized-long, lock-fits}
-use Rattle.label.proofs.Laying.{put-sealed, block-locked, block-plain, block-inside, block-whole}
+use Rattle.frame.proofs.Puts.{laid-sealed}
+use Rattle.label.proofs.Laying.{block-locked, block-plain, block-inside, block-whole}
 use Rattle.label.proofs.answer.say_block.Statement.{statement}
 use Rattle.label.proofs.answer.say_block.Tie as tie
 
@@ -22,7 +24,7 @@ returns c =
     let at = c .before .before .before .before .before .before .before .before .before .before .before .place .result in
     let p = c .before .before .before .before .before .before .before .before .before .before .before .place .ensures in
     let w = block-whole b (s .args .n) at (at + sizeOf b) p refl (s .pre .0) (s .pre .1 .1 .0) in
-    let l = put-sealed {old = old} (0 ∷ getD b (32 + s .args .n) 0 ∷ []) (take (at + sizeOf b - at) (drop at b)) (sizeOf b) w (omega (arith, s .pre .1)) (record { long = refl; is = refl }) (c .before .before .before .before .before .before .put-bytes .ensures) (c .before .before .seal .ensures) in
+    let l = laid-sealed {old = old} 0xFFFF true (0 ∷ getD b (32 + s .args .n) 0 ∷ []) (take (at + sizeOf b - at) (drop at b)) (sizeOf b) w (omega (arith, s .pre .1)) (record { long = refl; is = refl }) (c .before .before .before .before .before .before .put-bytes .ensures) (c .before .before .seal .ensures) in
     let e = block-locked b (s .args .n) at (at + sizeOf b) p refl (s .args .lock) (c .before .before .before .before .before .before .before .before .before .before .if1 .taken) in
     (l .long ∙ ap length e, l .is ∙ ap (sets old 0) e)
 
@@ -34,7 +36,7 @@ returns-2 c =
     let at = c .before .before .before .before .before .before .before .before .before .before .place .result in
     let p = c .before .before .before .before .before .before .before .before .before .before .place .ensures in
     let w = block-whole b (s .args .n) at (at + sizeOf b) p refl (s .pre .0) (s .pre .1 .1 .0) in
-    let l = put-sealed {old = old} (0 ∷ []) (take (at + sizeOf b - at) (drop at b)) (sizeOf b) w (omega (arith, s .pre .1)) (record { long = refl; is = refl }) (c .before .before .before .before .before .before .put-bytes2 .ensures) (c .before .before .seal2 .ensures) in
+    let l = laid-sealed {old = old} 0xFFFF true (0 ∷ []) (take (at + sizeOf b - at) (drop at b)) (sizeOf b) w (omega (arith, s .pre .1)) (record { long = refl; is = refl }) (c .before .before .before .before .before .before .put-bytes2 .ensures) (c .before .before .seal2 .ensures) in
     let e = block-plain b (s .args .n) at (at + sizeOf b) p refl (s .args .lock) (c .before .before .before .before .before .before .before .before .before .if1 .left) in
     (l .long ∙ ap length e, l .is ∙ ap (sets old 0) e)
 

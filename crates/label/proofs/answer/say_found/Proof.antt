@@ -1,13 +1,14 @@
 -- Two bytes, the UID and the check sum are laid one behind the other.
 -- Assumes nothing.
 use mathlib.Core.Path.{refl, _∙_}
+use mathlib.Core.Bool.{true}
 use mathlib.Core.List.{[], _∷_}
 use native.Mathlib.Omega.{arith}
 use denote.Ref.{now}
 use lib.ListN.{getD, length-set}
 use borrow.Author.Needs.{needs}
 use Rattle.label.specs.Answer.{answerFrame}
-use Rattle.label.proofs.Laying.{put-sealed}
+use Rattle.frame.proofs.Puts.{laid-sealed}
 use Rattle.label.proofs.answer.say_found.Statement.{statement}
 use Rattle.label.proofs.answer.say_found.Tie as tie
 
@@ -16,7 +17,7 @@ unfolding answerFrame
 returns c =
     let s = c .before .before .before .before .before .before .before .before .before .before .before in
     let b = now (s .args .b) in
-    let l = put-sealed {old = now (s .args .out)} (0 ∷ getD b 8 0 ∷ []) b 8 (omega (arith, s .pre)) (omega (arith, s .pre)) (record { long = refl; is = refl }) (c .before .before .before .before .before .before .put-bytes .ensures) (c .before .before .seal .ensures) in
+    let l = laid-sealed {old = now (s .args .out)} 0xFFFF true (0 ∷ getD b 8 0 ∷ []) b 8 (omega (arith, s .pre)) (omega (arith, s .pre)) (record { long = refl; is = refl }) (c .before .before .before .before .before .before .put-bytes .ensures) (c .before .before .seal .ensures) in
     (omega (arith, c .before .before .before .before .before .before .put-bytes .ensures .0, c .before .before .seal .ensures .0), l .is)
 
 pub say-found-spec : {M : Type 1} → statement M

@@ -1,8 +1,9 @@
 -- Two bytes, the first ten of the body, three more and the check sum are laid one behind the other.
 -- Assumes nothing.
 use mathlib.Core.Path.{refl, ap, _∙_}
+use mathlib.Core.Bool.{true}
 use mathlib.Core.List.{List, [], _∷_, _++_}
-use Prim.Native.Nat.{ℕ, _+_}
+use Prim.Native.Nat.{ℕ}
 use native.Mathlib.Omega.{arith}
 use denote.Ref.{now}
 use lib.ListN.{take, length-set}
@@ -10,10 +11,9 @@ use lib.Seq.{sets, length-take-le}
 use borrow.Author.Needs.{needs}
 use Rattle.frame.specs.Number.{part}
 use Rattle.frame.specs.CheckSum.{framed}
-use Rattle.frame.proofs.Puts.{Laid, laid-bytes}
+use Rattle.frame.proofs.Puts.{Laid, laid-bytes, laid-sealed}
+use Rattle.frame.proofs.Stores.{length-part, part-whole}
 use Rattle.label.specs.Answer.{answerFrame}
-use Rattle.label.proofs.Laying.{put-sealed, whole-part}
-use Rattle.label.proofs.Sets.{length-part}
 use Rattle.label.proofs.answer.say_info.Statement.{statement}
 use Rattle.label.proofs.answer.say_info.Tie as tie
 
@@ -26,9 +26,9 @@ returns c =
     let h = length-take-le 10 b (omega (arith, s .pre)) in
     let t = length-part 11 3 b (omega (arith, s .pre)) in
     let k : Laid (0 ∷ 0x0F ∷ take 10 b) _ old _ = laid-bytes {xs = 0 ∷ 0x0F ∷ []} {old = old} 10 b (omega (arith, s .pre)) (record { long = refl; is = refl }) (c .before .before .before .before .before .before .before .before .before .before .before .put-bytes .ensures) in
-    let l = put-sealed {old = old} (0 ∷ 0x0F ∷ take 10 b) (part 11 3 b) 3 (omega arith) (omega (arith, s .pre)) k (c .before .before .before .before .before .before .put-bytes2 .ensures) (c .before .before .seal .ensures) in (
+    let l = laid-sealed {old = old} 0xFFFF true (0 ∷ 0x0F ∷ take 10 b) (part 11 3 b) 3 (omega arith) (omega (arith, s .pre)) k (c .before .before .before .before .before .before .put-bytes2 .ensures) (c .before .before .seal .ensures) in (
       omega (arith, c .before .before .before .before .before .before .before .before .before .before .before .put-bytes .ensures .0, c .before .before .before .before .before .before .put-bytes2 .ensures .0, c .before .before .seal .ensures .0),
-      l .is ∙ ap (λ (x : List ℕ). sets old 0 (framed (0 ∷ 0x0F ∷ (take 10 b ++ x)))) (whole-part b 11 14 3 refl),
+      l .is ∙ ap (λ (x : List ℕ). sets old 0 (framed (0 ∷ 0x0F ∷ (take 10 b ++ x)))) (part-whole b 11 14 3 refl),
     )
 
 pub say-info-spec : {M : Type 1} → statement M

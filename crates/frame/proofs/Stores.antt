@@ -1,52 +1,56 @@
--- What a run of stores reads as: each law walks along the run, one `set` at a time.
+-- Stores and parts: what a run of stores leaves and what it fills. Each law walks along the run, one `set` at a time; parts are compared by their
+-- elements, so what holds of each element that a run does not reach holds of each part that it does not reach.
 -- Assumes nothing.
 use mathlib.Core.Path.{_≡_, refl, sym, ap, _∙_}
+use mathlib.Core.Logic.{_⊎_, inl, inr}
 use mathlib.Core.List.{List, [], _∷_, _++_, append-assoc}
-use Prim.Native.Nat.{ℕ, zero, suc, _+_, _≤_, _<_}
+use Prim.Native.Nat.{ℕ, zero, suc, _+_, _-_, _≤_, _<_}
 use native.Mathlib.Nat.{add-zero, add-suc, suc-add}
 use native.Mathlib.Omega.{arith}
+use lib.Dec.{lit<}
 use lib.ListN.{length, getD, take, drop, set, length-set, length-take, length-drop, take-append-drop}
-use lib.Seq.{sets, sets-eq, length-sets, getD-set-same, getD-set-other, set-set, set-comm, getD-take, getD-drop, take-at, drop-at, drop-drop, length-take-le, ext-getD}
+use lib.Seq.{sets, sets-eq, length-sets, getD-set-same, getD-set-other, set-set, set-comm, getD-take, getD-drop, take-at, take-take, drop-at, drop-drop, length-take-le, ext-getD}
 use Rattle.frame.specs.Number.{part, Bytes}
 
 -- ---- one element
 
-pub getD-sets-below : (b xs : List ℕ) (at j : ℕ) → j < at → getD (sets b at xs) j 0 ≡ getD b j 0
-getD-sets-below b [] at j h = refl
-getD-sets-below b (x ∷ xs) at j h = getD-sets-below (set b at x) xs (suc at) j (omega arith) ∙ getD-set-other b at j x 0 (λ e. omega arith)
+-- a run of stores leaves what it does not reach ..
+pub sets-off : (b xs : List ℕ) (at j : ℕ) → (j < at) ⊎ (at + length xs ≤ j) → getD (sets b at xs) j 0 ≡ getD b j 0
+sets-off b [] at j h = refl
+sets-off b (x ∷ xs) at j (inl h) = sets-off (set b at x) xs (suc at) j (inl (omega arith)) ∙ getD-set-other b at j x 0 (λ e. omega arith)
+sets-off b (x ∷ xs) at j (inr h) = sets-off (set b at x) xs (suc at) j (inr (omega arith)) ∙ getD-set-other b at j x 0 (λ e. omega arith)
 
-pub getD-sets-above : (b xs : List ℕ) (at j : ℕ) → at + length xs ≤ j → getD (sets b at xs) j 0 ≡ getD b j 0
-getD-sets-above b [] at j h = refl
-getD-sets-above b (x ∷ xs) at j h = getD-sets-above (set b at x) xs (suc at) j (omega arith) ∙ getD-set-other b at j x 0 (λ e. omega arith)
-
-pub getD-sets-in : (b xs : List ℕ) (at k : ℕ) → k < length xs → at + length xs ≤ length b → getD (sets b at xs) (at + k) 0 ≡ getD xs k 0
-getD-sets-in b [] at k h l = absurd (omega arith)
-getD-sets-in b (x ∷ xs) at zero h l =
-    rw add-zero (getD-sets-below (set b at x) xs (suc at) at (omega arith) ∙ getD-set-same b at x 0 (omega arith))
-getD-sets-in b (x ∷ xs) at (suc k) h l =
+-- .. and fills the rest
+pub sets-on : (b xs : List ℕ) (at k : ℕ) → k < length xs → at + length xs ≤ length b → getD (sets b at xs) (at + k) 0 ≡ getD xs k 0
+sets-on b [] at k h l = absurd (omega arith)
+sets-on b (x ∷ xs) at zero h l =
+    rw add-zero (sets-off (set b at x) xs (suc at) at (inl (omega arith)) ∙ getD-set-same b at x 0 (omega arith))
+sets-on b (x ∷ xs) at (suc k) h l =
     let m : suc at + length xs ≤ length (set b at x) = rw length-set (omega arith) in
-    rw (add-suc, ← suc-add) (getD-sets-in (set b at x) xs (suc at) k (omega arith) m)
+    rw (add-suc, ← suc-add) (sets-on (set b at x) xs (suc at) k (omega arith) m)
 
 -- ---- a part
 
 pub length-part : (p k : ℕ) (b : List ℕ) → p + k ≤ length b → length (part p k b) ≡ k
 length-part p k b h = length-take-le k (drop p b) (rw length-drop (omega arith))
 
+-- `&b[at..end]`, and the first k of it, which are all
+pub part-whole : (b : List ℕ) (at end k : ℕ) → end ≡ at + k → take k (take (end - at) (drop at b)) ≡ part at k b
+part-whole b at end k e = let d : end - at ≡ k = omega arith in rw d (take-take k k (drop at b) (omega arith))
+
 -- parts are equal by their elements
 pub part-ext : (p k : ℕ) (a b : List ℕ) → length a ≡ length b → ((j : ℕ) → j < k → getD a (p + j) 0 ≡ getD b (p + j) 0) → part p k a ≡ part p k b
 part-ext p k a b e f =
-    ext-getD 0 (part p k a) (part p k b) (rw (length-take, length-drop, length-take, length-drop, e))
+    ext-getD 0 (part p k a) (part p k b) (rw (length-take k (drop p a), length-drop, length-take, length-drop, e))
     (λ i h. let g : i < k = omega (arith, length-take k (drop p a)) in
     getD-take k (drop p a) i 0 g ∙ getD-drop p a i 0 ∙ f i g ∙ sym (getD-drop p b i 0) ∙ sym (getD-take k (drop p b) i 0 g))
 
-pub part-sets-below : (b xs : List ℕ) (at p k : ℕ) → p + k ≤ at → part p k (sets b at xs) ≡ part p k b
-part-sets-below b xs at p k h = part-ext p k (sets b at xs) b (length-sets b at xs) (λ j g. getD-sets-below b xs at (p + j) (omega arith))
+pub part-off : (b xs : List ℕ) (at p k : ℕ) → (p + k ≤ at) ⊎ (at + length xs ≤ p) → part p k (sets b at xs) ≡ part p k b
+part-off b xs at p k (inl h) = part-ext p k (sets b at xs) b (length-sets b at xs) (λ j g. sets-off b xs at (p + j) (inl (omega arith)))
+part-off b xs at p k (inr h) = part-ext p k (sets b at xs) b (length-sets b at xs) (λ j g. sets-off b xs at (p + j) (inr (omega arith)))
 
-pub part-sets-above : (b xs : List ℕ) (at p k : ℕ) → at + length xs ≤ p → part p k (sets b at xs) ≡ part p k b
-part-sets-above b xs at p k h = part-ext p k (sets b at xs) b (length-sets b at xs) (λ j g. getD-sets-above b xs at (p + j) (omega arith))
-
-pub part-sets-in : (b xs : List ℕ) (at : ℕ) → at + length xs ≤ length b → part at (length xs) (sets b at xs) ≡ xs
-part-sets-in b xs at h =
+pub part-on : (b xs : List ℕ) (at : ℕ) → at + length xs ≤ length b → part at (length xs) (sets b at xs) ≡ xs
+part-on b xs at h =
     rw (sets-eq xs b at h, append-assoc, drop-at (take at b) (xs ++ drop (at + length xs) b) at (length-take-le at b (omega arith)))
     (take-at xs (drop (at + length xs) b) (length xs) refl)
 
@@ -61,7 +65,7 @@ sets-own b at k h =
     (take-append-drop at b)
 
 -- a store before a run goes first or last
-pub set-sets : (b xs : List ℕ) (at j y : ℕ) → j < at → set (sets b at xs) j y ≡ sets (set b j y) at xs
+set-sets : (b xs : List ℕ) (at j y : ℕ) → j < at → set (sets b at xs) j y ≡ sets (set b j y) at xs
 set-sets b [] at j y h = refl
 set-sets b (x ∷ xs) at j y h =
     set-sets (set b at x) xs (suc at) j y (omega arith)
@@ -75,21 +79,14 @@ sets-over b (x ∷ xs) (y ∷ ys) at e =
     ap (λ (l : List ℕ). sets l (suc at) ys) (set-sets (set b at x) xs (suc at) at y (omega arith) ∙ ap (λ (l : List ℕ). sets l (suc at) xs) (set-set b at x y))
     ∙ sets-over (set b at y) xs ys (suc at) (omega arith)
 
--- two runs, one wholly before the other, in either order
-pub sets-comm : (b xs ys : List ℕ) (at to : ℕ) → at + length xs ≤ to → sets (sets b at xs) to ys ≡ sets (sets b to ys) at xs
-sets-comm b [] ys at to h = refl
-sets-comm b (x ∷ xs) ys at to h =
-    sets-comm (set b at x) xs ys (suc at) to (omega arith)
-    ∙ ap (λ (l : List ℕ). sets l (suc at) xs) (sym (set-sets b ys to at x (omega arith)))
-
 -- ---- bytes stay bytes
 
 pub bytes-cons : (x : ℕ) (xs : List ℕ) → x < 256 → Bytes xs → Bytes (x ∷ xs)
 bytes-cons x xs h f zero = h
 bytes-cons x xs h f (suc i) = f i
 
-pub bytes-nil : Bytes []
-bytes-nil i = omega arith
+pub bytes-three : (x y z : ℕ) → x < 256 → y < 256 → z < 256 → Bytes (x ∷ y ∷ z ∷ [])
+bytes-three x y z f g h = bytes-cons x (y ∷ z ∷ []) f (bytes-cons y (z ∷ []) g (bytes-cons z [] h (λ i. lit< tt)))
 
 pub bytes-set : (b : List ℕ) (i x : ℕ) → Bytes b → x < 256 → Bytes (set b i x)
 bytes-set [] i x f h = f
