@@ -1,14 +1,17 @@
 -- What an answer says stands in the body before the step as after it: a step that answers writes no block, and its stores reach no block and no UID.
+-- Its frame is a Chip_ID, a block or the UID with the check sum, so its length is the content's and two.
 -- Assumes nothing.
-use mathlib.Core.Path.{_≡_, refl, ap}
+use mathlib.Core.Path.{_≡_, refl, sym, ap, _∙_}
 use mathlib.Core.Bool.{true}
 use mathlib.Core.List.{List, [], _∷_}
-use Prim.Native.Nat.{ℕ, _≤_}
+use Prim.Native.Nat.{ℕ, _+_, _≤_}
 use native.Mathlib.Omega.{arith}
 use lib.ListN.{length, drop, length-take}
+use lib.Seq.{sets}
 use Rattle.frame.specs.Number.{num, part}
 use Rattle.frame.specs.CheckSum.{framed}
 use Rattle.frame.proofs.Frames.{length-framed}
+use Rattle.frame.proofs.Stores.{length-part}
 use Rattle.chip.specs.declared.request.Order.{Order}
 use Rattle.chip.specs.declared.step.Chip.{Chip}
 use Rattle.chip.specs.declared.step.Answer.{Answer}
@@ -49,3 +52,15 @@ frame-short a.Silent b = omega arith
 frame-short (a.Id id) b = omega (arith, length-framed 0xFFFF true (id ∷ []))
 frame-short (a.Block n) b = omega (arith, length-framed 0xFFFF true (part (placeOf n) 4 b), part-short (placeOf n) 4 b)
 frame-short a.Uid b = omega (arith, length-framed 0xFFFF true (part 68 8 b), part-short 68 8 b)
+
+-- ---- what a writer put is the frame of the answer
+
+pub answered : (xs ys old : List ℕ) {fin : List ℕ} {k r : ℕ} → (r ≡ k) × (fin ≡ sets old 0 xs) → xs ≡ ys → length xs ≡ k
+    → (r ≡ length ys) × (fin ≡ sets old 0 ys)
+answered xs ys old e f l = (e .0 ∙ sym l ∙ ap length f, e .1 ∙ ap (sets old 0) f)
+
+pub framed-one : (x : ℕ) → length (framed (x ∷ [])) ≡ 3
+framed-one x = length-framed 0xFFFF true (x ∷ [])
+
+pub framed-part : (at k : ℕ) (b : List ℕ) → at + k ≤ length b → length (framed (part at k b)) ≡ k + 2
+framed-part at k b h = length-framed 0xFFFF true (part at k b) ∙ ap (λ (n : ℕ). n + 2) (length-part at k b h)

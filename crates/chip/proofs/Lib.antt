@@ -1,6 +1,5 @@
 -- The laws of a chip, for its own proofs and for those of the crates above.
 pub mod Shapes
-pub mod Laid
 pub mod Steps
 pub mod Bodies
 pub mod Keeps

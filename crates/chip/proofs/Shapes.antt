@@ -1,20 +1,20 @@
 -- What code needs of the definitions: where they test in another order, where an enum is not of one variant, where a block stands.
 -- Assumes nothing.
 use mathlib.Core.Path.{_≡_, refl}
-use mathlib.Core.Bool.{Bool, true, false}
 use mathlib.Core.List.{List, [], _∷_}
-use Prim.Native.Nat.{ℕ, _+_, _*_, _^_, _≤_, _<_}
+use Prim.Native.Nat.{ℕ, _+_, _-_, _*_, _^_, _≤_, _<_}
 use native.Mathlib.Omega.{arith}
 use lib.Dec.{ltb}
 use lib.ListN.{drop, length-take}
 use types.Run.{OneOf, miss}
 use denote.Enum.Declared.{tagOf}
-use borrow.Author.Tests.{ltb-true}
-use Rattle.frame.specs.Choose.{if_then_else_}
+use borrow.Author.Tests.{ltb-true, ltb-false}
 use Rattle.frame.specs.Number.{num, part, Bytes}
+use Rattle.frame.proofs.Bools.{if-either}
 use Rattle.frame.proofs.Numbers.{num-lt, bytes-part}
 use Rattle.chip.specs.declared.request.Order.{Order}
 use Rattle.chip.specs.declared.request.Order.the-variants as o
+use Rattle.chip.specs.Write.{countDown}
 use Rattle.chip.specs.Body.{named, placeOf}
 use Rattle.chip.proofs.request.Order.{the-type}
 
@@ -22,14 +22,16 @@ use Rattle.chip.proofs.request.Order.{the-type}
 pub word-lt : (at : ℕ) (s : List ℕ) → Bytes s → num (part at 4 s) < 2 ^ 32
 word-lt at s h = num-lt 4 (part at 4 s) (bytes-part at 4 s h) (rw (length-take 4 (drop at s)) (omega arith))
 
+-- what is left of a counter that falls to w, where that is less
+pub falls : (old w : ℕ) → old - (old - w) ≡ countDown old w
+unfolding countDown
+falls old w =
+    if-either (λ (x : ℕ). old - (old - w) ≡ x) (ltb w old) w old (λ e. omega (arith, ltb-true w old e)) (λ e. omega (arith, ltb-false w old e))
+
 -- a block stands before the UID
 pub place-fits : (n : ℕ) → placeOf n + 4 ≤ 68
 unfolding placeOf
-place-fits n = go (ltb n 16) (ltb-true n 16)
-  where
-    go : (t : Bool) → (t ≡ true → n < 16) → (if t then 4 * n else 64) + 4 ≤ 68
-    go true f = let h : n < 16 = f refl in omega arith
-    go false f = omega arith
+place-fits n = if-either (λ (x : ℕ). x + 4 ≤ 68) (ltb n 16) (4 * n) 64 (λ e. omega (arith, ltb-true n 16 e)) (λ e. omega arith)
 
 -- the variants but Write, by their places
 abbrev others : List ℕ

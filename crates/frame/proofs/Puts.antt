@@ -2,7 +2,7 @@
 -- A straight line of puts is followed by one record, `Laid`: the front of the old buffer is covered by what was put so far.
 -- Assumes nothing.
 use mathlib.Core.Path.{_≡_, refl, ap, sym, _∙_}
-use mathlib.Core.Bool.{Bool}
+use mathlib.Core.Bool.{Bool, true}
 use mathlib.Core.List.{List, [], _∷_, _++_}
 use Prim.Native.Nat.{ℕ, suc, _+_, _-_, _/_, _%_, _≤_, _<_}
 use native.Mathlib.Nat.{add-zero, zero-add, add-suc, suc-add}
@@ -10,9 +10,11 @@ use native.Mathlib.Numerals.{add-one}
 use native.Mathlib.Omega.{arith}
 use lib.ListN.{length, take, drop, getD, set, length-append, length-take, drop-of-length-le}
 use lib.Seq.{sets, sets-eq, drop-cons, getD-take, take-at, length-take-le}
-use Rattle.frame.specs.Number.{bytesOf}
-use Rattle.frame.specs.CheckSum.{crcWith, framedWith}
+use Rattle.frame.specs.Number.{bytesOf, part}
+use Rattle.frame.specs.CheckSum.{crcWith, crcOf, framedWith, framed}
 use Rattle.frame.proofs.Numbers.{length-bytes}
+use Rattle.frame.proofs.Frames.{length-framed}
+use Rattle.frame.proofs.Stores.{length-part, part-whole, sets-own, sets-over}
 
 -- ---- a loop that writes what is left, rest, from place p on
 
@@ -87,16 +89,40 @@ laid-seal start inv {xs} {n} {n′} {old} {now} {now′} l h e =
     laid-number 2 (crcWith start inv xs) l
     (e .0, e .1 ∙ ap (λ (t : List ℕ). sets now n (bytesOf 2 (crcWith start inv t))) (laid-take l h))
 
--- k bytes put behind a front that is laid, and the check sum of all of it behind them
-pub laid-sealed : {n m r : ℕ} {old x y z : List ℕ} (start : ℕ) (inv : Bool) (front src : List ℕ) (k : ℕ) → k ≤ length src
-    → length front + k ≤ length old
-    → Laid front n old x
-    → (m ≡ n + k) × (y ≡ sets x n (take k src))
-    → (r ≡ m + 2) × (z ≡ sets y m (bytesOf 2 (crcWith start inv (take m y))))
-    → Laid (framedWith start inv (front ++ take k src)) r old z
-laid-sealed {old = old} start inv front src k h g l e f =
-    let t : length (front ++ take k src) ≤ length old = rw (length-append, length-take-le k src h) g in
-    laid-seal start inv (laid-bytes k src h l e) t f
-
 pub laid-done : {xs : List ℕ} {n : ℕ} {old now : List ℕ} → Laid xs n old now → length xs ≤ length old → now ≡ xs ++ drop (length xs) old
 laid-done {xs} {n} {old} {now} l h = l .is ∙ sets-front xs old h
+
+-- ---- a part of a body behind a front, sealed
+
+-- the front that a buffer has already
+laid-own : (n : ℕ) (old : List ℕ) → n ≤ length old → Laid (take n old) n old old
+laid-own n old h = record { long = sym (length-take-le n old h); is = sym (sets-own old 0 n (omega arith)) }
+
+-- what `seal_part` does, from its two calls
+pub sealed-part : (n at k : ℕ) (b old : List ℕ) {mid fin : List ℕ} {m r : ℕ} → at + k ≤ length b → n + k + 2 ≤ length old
+    → (m ≡ n + k) × (mid ≡ sets old n (take k (part at (at + k - at) b)))
+    → (r ≡ m + 2) × (fin ≡ sets mid m (bytesOf 2 (crcOf (take m mid))))
+    → (r ≡ n + k + 2) × (fin ≡ sets old 0 (framed (take n old ++ part at k b)))
+sealed-part n at k b old h g e f =
+    let src = part at (at + k - at) b in
+    let w : take k src ≡ part at k b = part-whole b at (at + k) k refl in
+    let d : at + k - at ≡ k = omega arith in
+    let q : k ≤ length src = rw (d, length-part at k b h) (omega arith) in
+    let o : n ≤ length old = omega arith in
+    let l = laid-bytes k src q (laid-own n old o) e in
+    let t : length (take n old ++ take k src) ≤ length old = rw (length-append, length-take-le n old o, length-take-le k src q) (omega arith) in
+    (omega arith, laid-seal 0xFFFF true l t f .is ∙ ap (λ (x : List ℕ). sets old 0 (framed (take n old ++ x))) w)
+
+-- and what its caller makes of it, who laid the front
+pub laid-part : {xs : List ℕ} {n r k : ℕ} {old now fin : List ℕ} (ys : List ℕ) → Laid xs n old now → length xs ≤ length old → length ys ≡ k
+    → (r ≡ n + k + 2) × (fin ≡ sets now 0 (framed (take n now ++ ys)))
+    → Laid (framed (xs ++ ys)) r old fin
+laid-part {xs} {n} {old = old} {now} {fin} ys l h g e =
+    let f = framed (xs ++ ys) in
+    let q : length f ≡ length (xs ++ ys) + 2 = length-framed 0xFFFF true (xs ++ ys) in
+    let c : length xs ≤ length f = omega (arith, q, length-append xs ys) in
+    let w : fin ≡ sets (sets old 0 xs) 0 f = e .1 ∙ rw (laid-take l h, l .is) in
+    record {
+      long = e .0 ∙ rw (q, length-append, l .long, g);
+      is = w ∙ sets-over old xs f 0 c;
+    }

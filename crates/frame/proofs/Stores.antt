@@ -71,8 +71,8 @@ set-sets b (x ∷ xs) at j y h =
     set-sets (set b at x) xs (suc at) j y (omega arith)
     ∙ ap (λ (l : List ℕ). sets l (suc at) xs) (set-comm b at j x y (λ e. omega arith))
 
--- of two runs over the same place the later one stands
-pub sets-over : (b xs ys : List ℕ) (at : ℕ) → length xs ≡ length ys → sets (sets b at xs) at ys ≡ sets b at ys
+-- of two runs from the same place on the later one stands, where it is no shorter
+pub sets-over : (b xs ys : List ℕ) (at : ℕ) → length xs ≤ length ys → sets (sets b at xs) at ys ≡ sets b at ys
 sets-over b [] ys at e = refl
 sets-over b (x ∷ xs) [] at e = absurd (omega arith)
 sets-over b (x ∷ xs) (y ∷ ys) at e =

@@ -51,7 +51,7 @@ module _ (s m e : ℕ) (b : List ℕ) where
 
   pub seek-seek : (s′ m′ e′ : ℕ) → seek s′ m′ e′ (seek s m e b) ≡ seek s′ m′ e′ b
   unfolding seek
-  seek-seek s′ m′ e′ = sets-over b (s ∷ m ∷ bytesOf 8 e) (s′ ∷ m′ ∷ bytesOf 8 e′) 15 refl
+  seek-seek s′ m′ e′ = sets-over b (s ∷ m ∷ bytesOf 8 e) (s′ ∷ m′ ∷ bytesOf 8 e′) 15 (omega arith)
 
   pub seek-bytes : s < 256 → m < 256 → Bytes b → Bytes (seek s m e b)
   unfolding seek

@@ -2,6 +2,7 @@
 use crate::body::place;
 use crate::step::Answer;
 use frame::check_sum::seal;
+use frame::part::seal_part;
 use frame::put::put_bytes;
 ghost use mathlib.Core.Path.{_≡_};
 ghost use Prim.Native.Nat.{_≤_};
@@ -31,8 +32,7 @@ fn say_found(b: &[u8], out: &mut [u8]) -> usize
 {
     out[0] = 0;
     out[1] = b[8];
-    let n = put_bytes(out, 2, b, 8);
-    seal(out, n)
+    seal_part(out, 2, b, 0, 8)
 }
 
 // 00, 0F, UID, DSFID, AFI, blocks less 1, length less 1, IC reference.
@@ -43,8 +43,7 @@ fn say_info(b: &[u8], out: &mut [u8]) -> usize
     out[0] = 0;
     out[1] = 0x0F;
     let n = put_bytes(out, 2, b, 10);
-    let m = put_bytes(out, n, &b[11..14], 3);
-    seal(out, m)
+    seal_part(out, n, b, 11, 3)
 }
 
 // 00, the lock byte if it is asked for, the block.
@@ -54,15 +53,12 @@ fn say_block(b: &[u8], n: u8, lock: bool, out: &mut [u8]) -> usize
 {
     let size = b[12] as usize + 1;
     let at = place(b, n);
-    let end = at + size;
     out[0] = 0;
     if lock {
         out[1] = b[32 + n as usize];
-        let m = put_bytes(out, 2, &b[at..end], size);
-        return seal(out, m);
+        return seal_part(out, 2, b, at, size);
     }
-    let m = put_bytes(out, 1, &b[at..end], size);
-    seal(out, m)
+    seal_part(out, 1, b, at, size)
 }
 
 // Writes the frame of an answer to the front of out, and returns its length.

@@ -146,8 +146,11 @@ impl Label {
     }
 
     fn inventory(self, family: Family, sixteen: bool, m: u8, e: u64) -> Stepped
-        ensures { λ r. ⌜ r ≡ inventory family sixteen m e self ⌝ }
+        ensures { λ r. ⌜ r ≡ awake (inventory family sixteen m e self) self ⌝ }
     {
+        if self.state == 0 {
+            return self.silent();
+        }
         let l = self.ended();
         if self.is_ready() {
             if passing(family, self.afi) {
@@ -167,8 +170,11 @@ impl Label {
 
     // A bare end of frame adds one to a running slot; after 15 the sequence ends in silence.
     fn end_of_frame(self) -> Stepped
-        ensures { λ r. ⌜ r ≡ endOfFrame self ⌝ }
+        ensures { λ r. ⌜ r ≡ awake (endOfFrame self) self ⌝ }
     {
+        if self.state == 0 {
+            return self.silent();
+        }
         if self.slot < 15 {
             let slot = self.slot + 1;
             return self.in_slot(slot, self.bits, self.mask).turn();
@@ -318,8 +324,11 @@ impl Label {
     }
 
     fn asked(self, to: Target, uid: [u8; 8], order: Order, count: usize, k: u8) -> Stepped
-        ensures { λ r. ⌜ r ≡ asked to uid order count k self ⌝ }
+        ensures { λ r. ⌜ r ≡ awake (asked to uid order count k self) self ⌝ }
     {
+        if self.state == 0 {
+            return self.silent();
+        }
         let l = self.ended();
         if self.is_meant(to, uid) {
             return l.perform(order, count, k);
@@ -328,6 +337,7 @@ impl Label {
     }
 
     // The label's step; count is how many bytes a write sent, k the lock byte of the block that the request names.
+    // Off and on are for every state; tags in state 0 ignore all else.
     pub fn act(self, r: Request, count: usize, k: u8) -> Stepped
         ensures { λ s. ⌜ s ≡ act r count k self ⌝ }
     {
@@ -336,40 +346,12 @@ impl Label {
             Call::Ignored => self.silent(),
             Call::Off => self.field_off(),
             Call::On => self.field_on(),
-            Call::EndOfFrame => self.awake_end(),
-            Call::Inventory(family, sixteen, m, e) => self.awake_inventory(family, sixteen, m, e),
+            Call::EndOfFrame => self.end_of_frame(),
+            Call::Inventory(family, sixteen, m, e) => self.inventory(family, sixteen, m, e),
             Call::Ask(to, order) => {
                 let uid = r.uid;
-                self.awake_asked(to, uid, order, count, k)
+                self.asked(to, uid, order, count, k)
             }
         }
-    }
-
-    // Tags in state 0 ignore all else.
-    fn awake_end(self) -> Stepped
-        ensures { λ r. ⌜ r ≡ awake (endOfFrame self) self ⌝ }
-    {
-        if self.state == 0 {
-            return self.silent();
-        }
-        self.end_of_frame()
-    }
-
-    fn awake_inventory(self, family: Family, sixteen: bool, m: u8, e: u64) -> Stepped
-        ensures { λ r. ⌜ r ≡ awake (inventory family sixteen m e self) self ⌝ }
-    {
-        if self.state == 0 {
-            return self.silent();
-        }
-        self.inventory(family, sixteen, m, e)
-    }
-
-    fn awake_asked(self, to: Target, uid: [u8; 8], order: Order, count: usize, k: u8) -> Stepped
-        ensures { λ r. ⌜ r ≡ awake (asked to uid order count k self) self ⌝ }
-    {
-        if self.state == 0 {
-            return self.silent();
-        }
-        self.asked(to, uid, order, count, k)
     }
 }

@@ -8,7 +8,7 @@ use Rattle.frame.specs.Number.{part}
 use Rattle.frame.specs.CheckSum.{framed}
 use Rattle.chip.specs.Answer.{answerFrame}
 use Rattle.chip.proofs.Shapes.{place-fits}
-use Rattle.chip.proofs.Laid.{answered, framed-part, framed-one}
+use Rattle.chip.proofs.Answers.{answered, framed-part, framed-one}
 use borrow.Author.Needs.{needs}
 use Rattle.chip.proofs.answer.write_answer.Statement.{statement}
 use Rattle.chip.proofs.answer.write_answer.Tie as tie
@@ -37,10 +37,10 @@ write-answer-spec =
     let v = c .before .before .before .before .before .before .a2 .given in
     let q = c .before .before .before .before in
     let p = q .place .result in
-    answered (framed (part p 4 (now (a .b)))) (answerFrame (a .a) (now (a .b))) (now (a .out)) (c .before .before .say-part .ensures) (rw (q .place .ensures, v .1))
+    answered (framed (part p 4 (now (a .b)))) (answerFrame (a .a) (now (a .b))) (now (a .out)) (c .before .before .seal-part .ensures) (rw (q .place .ensures, v .1))
     (framed-part p 4 (now (a .b)) (omega (arith, q .place .ensures, place-fits (v .0 .0), s .pre .0))))
     (λ c. search needs)
     (λ c. let s = c .before .before .before .before .before .before .before .before in
     let a = s .args in
-    answered (framed (part 68 8 (now (a .b)))) (answerFrame (a .a) (now (a .b))) (now (a .out)) (c .before .before .say-part2 .ensures) (rw (c .before .before .before .before .enum-told2 .given .1))
+    answered (framed (part 68 8 (now (a .b)))) (answerFrame (a .a) (now (a .b))) (now (a .out)) (c .before .before .seal-part2 .ensures) (rw (c .before .before .before .before .enum-told2 .given .1))
     (framed-part 68 8 (now (a .b)) (omega (arith, s .pre .0)))))

@@ -1,7 +1,7 @@
 -- What the two calls ensure, put into the definition; a remainder by 2 ^ m is below it.
 -- Assumes nothing.
-use mathlib.Core.Path.{_≡_, ap, sym, _∙_, subst}
-use Prim.Native.Nat.{ℕ, _%_, _^_, _<_}
+use mathlib.Core.Path.{_≡_, sym, subst}
+use Prim.Native.Nat.{ℕ, _^_, _<_}
 use borrow.Author.Needs.{needs}
 use Rattle.frame.specs.Ending.{bytesFor, maskAt}
 use Rattle.frame.proofs.Endings.{mask-lt}
@@ -16,7 +16,7 @@ returns : tie.Need-returns
 unfolding maskAt bytesFor
 returns c =
     let a = c .before .before .before .args in
-    let e : c .low-bits .result ≡ maskAt (a .s .now) (a .at) (a .m) = c .low-bits .ensures ∙ ap (λ (n : ℕ). n % 2 ^ a .m) (c .before .number-at .ensures) in
+    let e : c .low-bits .result ≡ maskAt (a .s .now) (a .at) (a .m) = rw (c .low-bits .ensures, c .before .number-at .ensures) in
     (e, subst (λ (x : ℕ). x < 2 ^ a .m) (sym e) (mask-lt (a .s .now) (a .at) (a .m)))
 
 pub mask-at-spec : {M : Type 1} → statement M

@@ -1,7 +1,8 @@
--- One test: the slot sequence ends first, either way.
+-- State 0 or not; then one test: the slot sequence ends first, either way.
 -- Assumes nothing.
 use mathlib.Core.Path.{sym, _∙_}
 use borrow.Author.Needs.{needs}
+use borrow.Author.Tests.{eq-eqb, ne-eqb}
 use Rattle.label.specs.Step.{asked}
 use Rattle.label.proofs.step.Label.asked.Statement.{statement}
 use Rattle.label.proofs.step.Label.asked.Tie as tie
@@ -12,8 +13,10 @@ asked-spec =
     tie.close
     (tie.spec
     (λ c κs. search needs)
+    (λ c. c .silent .ensures ∙ rw (eq-eqb _ _ (c .before .if1 .taken)))
     (λ c κs. search needs)
     (λ c κs. search needs)
-    (λ c. c .perform .ensures ∙ rw (c .before .before .before .ended .ensures, sym (c .before .before .is-meant .ensures) ∙ c .before .if1 .taken))
     (λ c κs. search needs)
-    (λ c. c .passed .ensures ∙ rw (c .before .before .before .ended .ensures, sym (c .before .before .is-meant .ensures) ∙ c .before .if1 .left)))
+    (λ c. c .perform .ensures ∙ rw (c .before .before .before .ended .ensures, ne-eqb _ _ (c .before .before .before .before .if1 .left), sym (c .before .before .is-meant .ensures) ∙ c .before .if2 .taken))
+    (λ c κs. search needs)
+    (λ c. c .passed .ensures ∙ rw (c .before .before .before .ended .ensures, ne-eqb _ _ (c .before .before .before .before .if1 .left), sym (c .before .before .is-meant .ensures) ∙ c .before .if2 .left)))

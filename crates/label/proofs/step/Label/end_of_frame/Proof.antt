@@ -1,4 +1,4 @@
--- The ladder of the definition.
+-- State 0 or not; then the ladder of the definition.
 -- Assumes nothing.
 use mathlib.Core.Path.{_∙_}
 use borrow.Author.Needs.{needs}
@@ -12,12 +12,14 @@ unfolding endOfFrame
 end-of-frame-spec =
     tie.close
     (tie.spec
+    (λ c κs. search needs)
+    (λ c. c .silent .ensures ∙ rw (eq-eqb _ _ (c .before .if1 .taken)))
     (λ c. search needs)
     (λ c κs. search needs)
     (λ c κs. search needs)
-    (λ c. c .turn .ensures ∙ rw (c .before .in-slot .ensures, lt-ltb _ _ (c .before .before .before .if1 .taken)))
+    (λ c. c .turn .ensures ∙ rw (c .before .in-slot .ensures, lt-ltb _ _ (c .before .before .before .if2 .taken), ne-eqb _ _ (c .before .before .before .before .before .if1 .left)))
     (λ c κs. search needs)
     (λ c κs. search needs)
-    (λ c. c .silent .ensures ∙ rw (c .before .ended .ensures, le-ltb _ _ (c .before .before .before .before .if1 .left), eq-eqb _ _ (c .before .before .if2 .taken)))
+    (λ c. c .silent2 .ensures ∙ rw (c .before .ended .ensures, le-ltb _ _ (c .before .before .before .before .if2 .left), ne-eqb _ _ (c .before .before .before .before .before .before .if1 .left), eq-eqb _ _ (c .before .before .if3 .taken)))
     (λ c κs. search needs)
-    (λ c. c .silent2 .ensures ∙ rw (le-ltb _ _ (c .before .before .before .if1 .left), ne-eqb _ _ (c .before .if2 .left))))
+    (λ c. c .silent3 .ensures ∙ rw (le-ltb _ _ (c .before .before .before .if2 .left), ne-eqb _ _ (c .before .before .before .before .before .if1 .left), ne-eqb _ _ (c .before .if3 .left))))
