@@ -3,6 +3,7 @@ use crate::request::Order;
 use crate::request::word_at;
 use crate::step::Answer;
 use crate::step::Chip;
+use crate::step::Stepped;
 use crate::step::Work;
 use frame::put::put_number;
 use frame::verdict::Verdict;
@@ -13,7 +14,7 @@ ghost use mathlib.Core.Bool.{not, _&&_, _||_};
 ghost use lib.Dec.{eqb, ltb};
 ghost use Prim.Native.Nat.{_≤_};
 ghost use lib.ListN.{length};
-ghost use Rattle.chip.specs.Body.{chipRules, loadOf, storeOf, placeOf, named, worked, nextChip, saidChip};
+ghost use Rattle.chip.specs.Body.{chipRules, loadOf, storeOf, placeOf, named, worked, stepped, nextChip, saidChip};
 
 // In state 0 Chip_ID is 0.
 fn wrong_id(state: u8, id: u8) -> bool
@@ -137,15 +138,23 @@ fn do_work(b: &mut [u8], work: Work)
     put_number(b, at, v as u64, 4);
 }
 
+// The step of the chip that a body holds.
+fn act_on(b: &[u8], order: Order, draw: u8) -> Stepped
+    requires { ⌜ 80 ≤ length (now b) ⌝ }
+    ensures { λ r. ⌜ r ≡ stepped order draw (now (b .entry)) ⌝ }
+{
+    let c = load(b);
+    let o = named_block(b, order);
+    let s = word_at(b, 64);
+    c.act(order, draw, o, s)
+}
+
 // What a chip answers to an order; its body stays.
 pub fn said(b: &[u8], order: Order, draw: u8) -> Answer
     requires { ⌜ 80 ≤ length (now b) ⌝ }
     ensures { λ r. ⌜ r ≡ saidChip order draw (now (b .entry)) ⌝ }
 {
-    let c = load(b);
-    let o = named_block(b, order);
-    let s = word_at(b, 64);
-    let stepped = c.act(order, draw, o, s);
+    let stepped = act_on(b, order, draw);
     stepped.answer
 }
 
@@ -154,10 +163,7 @@ pub fn step(b: &mut [u8], order: Order, draw: u8) -> Answer
     requires { ⌜ 80 ≤ length (now b) ⌝ }
     ensures { λ r. ⌜ (r ≡ saidChip order draw (now (b .entry))) × (now (b .exit) ≡ nextChip order draw (now (b .entry))) ⌝ }
 {
-    let c = load(b);
-    let o = named_block(b, order);
-    let s = word_at(b, 64);
-    let stepped = c.act(order, draw, o, s);
+    let stepped = act_on(b, order, draw);
     let next = stepped.next;
     store(b, next);
     let work = stepped.work;

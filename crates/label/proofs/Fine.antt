@@ -2,6 +2,7 @@
 -- eight bits fewer for each. The place of an offence lies in the body: by the cases of the rules.
 -- Assumes nothing.
 use mathlib.Core.Path.{_≡_, refl, ap, _∙_}
+use mathlib.Core.Logic.{⊎-elim}
 use mathlib.Core.Bool.{Bool, true, false, not, _&&_}
 use mathlib.Core.List.{List, [], _∷_}
 use Prim.Native.Nat.{ℕ, zero, suc, _+_, _-_, _*_, _^_, _≤_, _<_}
@@ -11,12 +12,12 @@ use lib.Dec.{eqb, ltb}
 use lib.Pow.{pow-pos, pow-mono, pow-add}
 use lib.ListN.{length, getD, drop, length-take}
 use lib.Seq.{getD-take, getD-drop}
-use borrow.Author.Tests.{eqb-true, eqb-false, eq-eqb, ne-eqb, ltb-true, ltb-false, le-ltb, leb-false, lt-leb, not-false}
+use borrow.Author.Tests.{eqb-true, eqb-false, eq-eqb, ne-eqb, ltb-false, le-ltb, leb-false, lt-leb, not-false}
 use Rattle.frame.specs.declared.verdict.Verdict.{Verdict}
 use Rattle.frame.specs.Choose.{if_then_else_}
 use Rattle.frame.specs.Number.{num, part, Bytes}
 use Rattle.frame.specs.Judge.{fine, bad, firstOf, byteVerdict}
-use Rattle.frame.proofs.Bools.{if-either, if-both}
+use Rattle.frame.proofs.Bools.{below-or-not, if-either, if-both}
 use Rattle.frame.proofs.Numbers.{bytes-part}
 use Rattle.frame.proofs.Verdicts.{if-fine, else-fine, not-none, first-none, first-suc, first-each, first-all, bytes-fine, bytes-good}
 use Rattle.label.specs.Body.{blocksOf, sizeOf, Sized, headRules, bitsRules, slotRules, over, maskVerdict, labelRules}
@@ -36,22 +37,21 @@ fewer-bits : (m j : ℕ) → m - 8 * suc j ≡ m - 8 - 8 * j
 fewer-bits m j = omega arith
 
 join-lt : (x n m : ℕ) → x < 256 → x < 2 ^ m → n < 2 ^ (m - 8) → x + n * 256 < 2 ^ m
-join-lt x n m hx h l = go (ltb m 8) refl
-  where
-    go : (t : Bool) → ltb m 8 ≡ t → x + n * 256 < 2 ^ m
-    go true e = let q : 2 ^ (m - 8) ≡ 1 = none-left m (ltb-true m 8 e) in omega arith
-    go false e = let q : 2 ^ m ≡ 256 * 2 ^ (m - 8) = fewer m (ltb-false m 8 e) in omega arith
+join-lt x n m hx h l =
+    ⊎-elim
+    (λ (k : m < 8). let q : 2 ^ (m - 8) ≡ 1 = none-left m k in omega arith)
+    (λ (k : 8 ≤ m). let q : 2 ^ m ≡ 256 * 2 ^ (m - 8) = fewer m k in omega arith)
+    (below-or-not m 8)
 
 split-lt : (x n m : ℕ) → x + n * 256 < 2 ^ m → n < 2 ^ (m - 8)
-split-lt x n m h = go (ltb m 8) refl
-  where
-    go : (t : Bool) → ltb m 8 ≡ t → n < 2 ^ (m - 8)
-    go true e =
-        let l : m < 8 = ltb-true m 8 e in
-        let q : 2 ^ (m - 8) ≡ 1 = none-left m l in
-        let p : 2 ^ m ≤ 2 ^ 8 = pow-mono {i = m} {j = 8} (omega arith) in
-        omega arith
-    go false e = let q : 2 ^ m ≡ 256 * 2 ^ (m - 8) = fewer m (ltb-false m 8 e) in omega arith
+split-lt x n m h =
+    ⊎-elim
+    (λ (k : m < 8).
+    let q : 2 ^ (m - 8) ≡ 1 = none-left m k in
+    let p : 2 ^ m ≤ 2 ^ 8 = pow-mono {i = m} {j = 8} (omega arith) in
+    omega arith)
+    (λ (k : 8 ≤ m). let q : 2 ^ m ≡ 256 * 2 ^ (m - 8) = fewer m k in omega arith)
+    (below-or-not m 8)
 
 le-lt : (x y n : ℕ) → x + y < n → x < n
 le-lt x y n h = omega arith

@@ -1,17 +1,18 @@
 -- What the hospital's floor asked of a label, over any request: the UID and the numbers stay, what is locked stays, a label that is quiet or off keeps still.
 -- By the ways of the step. Assumes nothing.
 use mathlib.Core.Path.{_≡_, refl, sym, ap, _∙_}
-use mathlib.Core.Logic.{inl, inr}
-use mathlib.Core.Bool.{Bool, true, false}
+use mathlib.Core.Logic.{inl, inr, ⊎-elim}
+use mathlib.Core.Bool.{Bool, true}
 use mathlib.Core.List.{List, [], _∷_}
 use Prim.Native.Nat.{ℕ, _+_, _/_, _%_, _^_, _≤_, _<_}
 use native.Mathlib.Omega.{arith}
-use lib.Dec.{eqb, ltb}
-use lib.ListN.{length, getD, set}
-use lib.Seq.{sets, getD-set-same, getD-set-other}
-use borrow.Author.Tests.{eqb-true, eqb-false, ne-eqb, ltb-true, ltb-false}
-use Rattle.frame.specs.Choose.{if_then_else_, bit}
+use lib.Dec.{eqb}
+use lib.ListN.{length, getD}
+use lib.Seq.{getD-set-same, getD-set-other}
+use borrow.Author.Tests.{ne-eqb}
+use Rattle.frame.specs.Choose.{bit}
 use Rattle.frame.specs.Number.{num, part, Bytes}
+use Rattle.frame.proofs.Bools.{below-or-not, same-or-not, if-both}
 use Rattle.frame.proofs.Stores.{sets-off, part-off}
 use Rattle.label.specs.declared.request.Target.{Target}
 use Rattle.label.specs.declared.request.Target.the-variants as t
@@ -25,7 +26,7 @@ use Rattle.label.specs.declared.step.Answer.the-variants as a
 use Rattle.label.specs.declared.step.Work.{Work}
 use Rattle.label.specs.declared.step.Work.the-variants as w
 use Rattle.label.specs.declared.step.Stepped.{Stepped}
-use Rattle.label.specs.Step.{withState, ended, silent, refused, ready, inventory, acts, perform, passed, asked, called, act}
+use Rattle.label.specs.Step.{withState, ended, silent, ready, inventory, acts, perform, passed, asked, called, act}
 use Rattle.label.specs.Body.{loadOf, storeOf, worked, stepped, nextLabel, saidLabel, named, Sized, blocksOf, sizeOf, blockAt, lockAt}
 use Rattle.label.specs.Slots.{clear}
 use Rattle.label.proofs.Room.{lock-fits, lock-before, block-next, block-after}
@@ -81,17 +82,15 @@ block-stays : (x : Work) (n : ℕ) (bytes b : List ℕ) → n < blocksOf b → S
     → part (blockAt b n) (sizeOf b) (worked x bytes b) ≡ part (blockAt b n) (sizeOf b) b
 unfolding Spares worked
 block-stays w.Nothing n bytes b h g = refl
-block-stays (w.Write m) n bytes b h g = go (ltb m n) refl
-  where
-    go : (t : Bool) → ltb m n ≡ t → part (blockAt b n) (sizeOf b) (sets b (blockAt b m) bytes) ≡ part (blockAt b n) (sizeOf b) b
-    go true e =
-        let i : blockAt b m + length bytes ≤ blockAt b n = rw (g .1) (block-next b m n (ltb-true m n e)) in
-        part-off b bytes (blockAt b m) (blockAt b n) (sizeOf b) (inr i)
-    go false e =
-        let j = ltb-false m n e in
-        let d : n ≡ m → ⊥ = λ q. g .0 (sym q) in
-        let i : n < m = omega arith in
-        part-off b bytes (blockAt b m) (blockAt b n) (sizeOf b) (inl (block-next b n m i))
+block-stays (w.Write m) n bytes b h g =
+    part-off b bytes (blockAt b m) (blockAt b n) (sizeOf b)
+    (⊎-elim
+    (λ (i : m < n). inr (rw (g .1) (block-next b m n i)))
+    (λ (i : n ≤ m).
+    let d : n ≡ m → ⊥ = λ q. g .0 (sym q) in
+    let j : n < m = omega arith in
+    inl (block-next b n m j))
+    (below-or-not m n))
 block-stays (w.Lock m) n bytes b h g =
     part-off b (1 ∷ []) (lockAt m) (blockAt b n) (sizeOf b) (inr (omega (arith, lock-before b m n g)))
 
@@ -99,11 +98,11 @@ locks-stay : (x : Work) (n : ℕ) (bytes b : List ℕ) → Sized b → n < block
 unfolding worked
 locks-stay w.Nothing n bytes b s h e = e
 locks-stay (w.Write m) n bytes b s h e = sets-off b bytes (blockAt b m) (lockAt n) (inl (lock-before b n m (omega arith))) ∙ e
-locks-stay (w.Lock m) n bytes b s h e = go (eqb m n) refl
-  where
-    go : (t : Bool) → eqb m n ≡ t → getD (set b (lockAt m) 1) (lockAt n) 0 ≡ 1
-    go true q = rw (eqb-true m n q) (getD-set-same b (lockAt n) 1 0 (lock-fits b n s (omega arith)))
-    go false q = getD-set-other b (lockAt m) (lockAt n) 1 0 (λ z. eqb-false m n q (omega arith)) ∙ e
+locks-stay (w.Lock m) n bytes b s h e =
+    ⊎-elim
+    (λ (q : m ≡ n). rw q (getD-set-same b (lockAt n) 1 0 (lock-fits b n s (omega arith))))
+    (λ (q : m ≡ n → ⊥). getD-set-other b (lockAt m) (lockAt n) 1 0 (λ z. q (omega arith)) ∙ e)
+    (same-or-not m n)
 
 -- the label stored moves neither
 spares-stored : (n count : ℕ) (x : Work) (b : List ℕ) (l : Label) → Spares n count x b → Spares n count x (storeOf b l)
@@ -258,13 +257,10 @@ module _ (r : Request) (b : List ℕ) (q : getD b 14 0 ≡ 0) (f : r .call ≡ k
 module _ (uid : List ℕ) (to : Target) (e : ℕ) (b : List ℕ) where
   fault-state : (n : ℕ) → stepped (record { uid = uid; call = k.Ask to (o.Fault e) }) n b .next .state ≡ getD b 14 0
   unfolding stepped act called asked perform passed ended loadOf
-  fault-state n = go (eqb (getD b 14 0) 0) (acts to uid (loadOf b))
+  fault-state n = if-both Keeps (eqb (getD b 14 0) 0) refl (if-both Keeps (acts to uid (loadOf b)) refl refl)
     where
-      go : (x y : Bool)
-          → (if x then silent (loadOf b) else if y then refused e (ended (loadOf b)) else silent (ended (loadOf b))) .next .state ≡ getD b 14 0
-      go true y = refl
-      go false true = refl
-      go false false = refl
+      Keeps : Stepped → Type 0
+      Keeps s = s .next .state ≡ getD b 14 0
 
   pub fault-stays : (bytes : List ℕ) → 25 ≤ length b → getD (nextLabel (record { uid = uid; call = k.Ask to (o.Fault e) }) bytes b) 14 0 ≡ getD b 14 0
   fault-stays bytes long =

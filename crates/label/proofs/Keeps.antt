@@ -1,16 +1,17 @@
 -- A step keeps a body's length and its rules: a label that keeps its own rules goes on keeping them, by the ways of the step, and so do the bytes behind it.
 -- Assumes nothing.
 use mathlib.Core.Path.{_≡_, refl, _∙_}
-use mathlib.Core.Bool.{Bool, true, false}
+use mathlib.Core.Logic.{⊎-elim}
+use mathlib.Core.Bool.{true}
 use mathlib.Core.List.{List}
 use Prim.Native.Nat.{ℕ, _+_, _/_, _%_, _^_, _≤_, _<_}
 use native.Mathlib.Nat.{lt-of-lt-of-le}
 use native.Mathlib.Omega.{arith}
-use lib.Dec.{eqb}
 use lib.ListN.{length}
 use lib.Pow.{pow-mono}
-use borrow.Author.Tests.{eqb-true, eqb-false, ne-eqb}
+use borrow.Author.Tests.{eqb-true, ne-eqb}
 use Rattle.frame.specs.Number.{Bytes}
+use Rattle.frame.proofs.Bools.{same-or-not}
 use Rattle.label.specs.declared.request.Call.{Call}
 use Rattle.label.specs.declared.request.Request.{Request}
 use Rattle.label.specs.declared.step.Label.{Label}
@@ -177,11 +178,8 @@ module _ (b : List ℕ) (l : Label) (ok : LabelFine b) (p : Proper l) where
       }
 
 slot-small : (l : Label) → Proper l → l .slot < 256
-slot-small l p = go (eqb (l .slot) 255) refl
-  where
-    go : (t : Bool) → eqb (l .slot) 255 ≡ t → l .slot < 256
-    go true e = omega (arith, eqb-true (l .slot) 255 e)
-    go false e = omega (arith, p .slot (eqb-false (l .slot) 255 e))
+slot-small l p =
+    ⊎-elim (λ (e : l .slot ≡ 255). omega arith) (λ (e : l .slot ≡ 255 → ⊥). omega (arith, p .slot e)) (same-or-not (l .slot) 255)
 
 pub stored-small : (b : List ℕ) (l : Label) → Bytes b → Proper l → Bytes (storeOf b l)
 stored-small b l f p = stored-all b l f (p .dsfid) (p .afi) (omega arith) (omega arith) (slot-small l p) (omega arith)

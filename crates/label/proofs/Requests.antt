@@ -7,16 +7,17 @@ use Prim.Native.Nat.{ℕ, _+_, _-_, _/_, _%_, _≤_, _<_}
 use native.Mathlib.Omega.{arith}
 use lib.ListN.{length, getD}
 use borrow.Author.Tests.{lt-ltb, le-ltb, eq-eqb, ne-eqb}
-use Rattle.frame.specs.Choose.{if_then_else_, set?}
+use Rattle.frame.specs.Choose.{set?}
 use Rattle.frame.specs.Number.{part}
 use Rattle.frame.specs.CheckSum.{right}
 use Rattle.frame.specs.Ending.{bytesFor, maskAt}
+use Rattle.frame.proofs.Bools.{if-both}
 use Rattle.label.specs.declared.request.Family.{Family}
 use Rattle.label.specs.declared.request.Order.the-variants as o
 use Rattle.label.specs.declared.request.Call.the-variants as k
 use Rattle.label.specs.declared.table.Found.the-variants.{Entry, Missing}
 use Rattle.label.specs.Table.{table, lookup}
-use Rattle.label.specs.Request.{flag, bare, nothing, most, masked, plain, checked, params, addressing, decode, dataOf}
+use Rattle.label.specs.Request.{flag, bare, nothing, most, masked, plain, checked, addressing, decode, dataOf}
 
 -- ---- masks
 module _ (family : Family) (sixteen : Bool) (at : ℕ) (f : List ℕ) {n : ℕ} (e : n ≡ most sixteen) where
@@ -86,11 +87,7 @@ module _ (f : List ℕ) where
 
   pub data-short : length f < 5 → dataOf f ≡ []
   unfolding dataOf
-  data-short h = go (set? (flag 5 f))
-    where
-      go : (t : Bool) → (if t then params 11 f else params 3 f) ≡ []
-      go true = none 11 (omega arith)
-      go false = none 3 (omega arith)
+  data-short h = if-both (λ (x : List ℕ). x ≡ []) (set? (flag 5 f)) (none 11 (omega arith)) (none 3 (omega arith))
 
   pub data-cut : length f < 13 → getD f 0 0 / 32 % 2 ≡ 1 → dataOf f ≡ []
   data-cut h z = data-one z ∙ none 11 (omega arith)

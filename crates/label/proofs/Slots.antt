@@ -1,7 +1,7 @@
 -- A label through the slots of a sixteen-slot Inventory: the step on its body is `seek`, ten bytes anew, so slot s is `during .. s`.
 -- Well-formedness is needed where a label in state 0 is left alone: it has no slot already. Assumes nothing.
 use mathlib.Core.Path.{_≡_, refl, sym, ap, ap₂, _∙_}
-use mathlib.Core.Logic.{inl}
+use mathlib.Core.Logic.{inl, ⊎-elim}
 use mathlib.Core.Bool.{Bool, true, false, _&&_, _||_, false≢true}
 use mathlib.Core.List.{List, _∷_}
 use Prim.Native.Nat.{ℕ, suc, _+_, _^_, _≤_, _<_}
@@ -15,7 +15,7 @@ use Rattle.frame.specs.Choose.{if_then_else_}
 use Rattle.frame.specs.Number.{num, bytesOf, part, Bytes}
 use Rattle.frame.specs.CheckSum.{framed}
 use Rattle.frame.specs.Ending.{endsInSlot}
-use Rattle.frame.proofs.Bools.{and-both, if-both, if-same}
+use Rattle.frame.proofs.Bools.{and-both, same-or-not, if-both, if-same}
 use Rattle.frame.proofs.Numbers.{bytes-small}
 use Rattle.frame.proofs.Stores.{sets-off, part-off, sets-over, bytes-cons, bytes-sets}
 use Rattle.label.specs.declared.request.Family.{Family}
@@ -95,12 +95,9 @@ on-clear family b = on-seek family 255 0 0 b
 module _ (r : Request) (bytes b : List ℕ) (l : Label) where
   pub next-turn : stepped r (length bytes) b ≡ turn l → nextLabel r bytes b ≡ storeOf b l
   unfolding nextLabel turn worked
-  next-turn e = ap (λ (s : Stepped). worked (s .work) bytes (storeOf b (s .next))) e ∙ go (endsInSlot (l .uid) (l .mask) (l .bits) (l .slot))
-    where
-      go : (t : Bool)
-          → worked ((if t then told a.Found l else silent l) .work) bytes (storeOf b ((if t then told a.Found l else silent l) .next)) ≡ storeOf b l
-      go true = refl
-      go false = refl
+  next-turn e =
+      ap (λ (s : Stepped). worked (s .work) bytes (storeOf b (s .next))) e
+      ∙ if-both (λ (s : Stepped). worked (s .work) bytes (storeOf b (s .next)) ≡ storeOf b l) (endsInSlot (l .uid) (l .mask) (l .bits) (l .slot)) refl refl
 
   pub next-silent : stepped r (length bytes) b ≡ silent l → nextLabel r bytes b ≡ storeOf b l
   unfolding nextLabel worked
@@ -206,7 +203,11 @@ module _ (family : Family) (m e s : ℕ) (b : List ℕ) where
 pub clear-own : (b : List ℕ) → Bytes b → LabelFine b → getD b 14 0 ≡ 0 → clear b ≡ b
 unfolding clear
 clear-own b f ok z =
-    let h : getD b 15 0 ≡ 255 = go (eqb (getD b 15 0) 255) refl in
+    let h : getD b 15 0 ≡ 255
+    = ⊎-elim
+    (λ (e : getD b 15 0 ≡ 255). e)
+    (λ (e : getD b 15 0 ≡ 255 → ⊥). absurd (let x = ok .ready e (λ y. omega arith) in omega arith))
+    (same-or-not (getD b 15 0) 255) in
     let i : getD b 16 0 ≡ 0 = ok .idle h in
     let q : num (part 17 8 b) < 2 ^ 0 = rw i at (ok .mask) in
     let o : num (part 17 8 b) ≡ 0 = omega arith in
@@ -214,10 +215,6 @@ clear-own b f ok z =
     ∙ ap (λ (x : ℕ). seek (getD b 15 0) x 0 b) (sym i)
     ∙ ap (λ (x : ℕ). seek (getD b 15 0) (getD b 16 0) x b) (sym o)
     ∙ seek-own b f (omega (arith, sized-long b (ok .sized)))
-  where
-    go : (t : Bool) → eqb (getD b 15 0) 255 ≡ t → getD b 15 0 ≡ 255
-    go true e = eqb-true (getD b 15 0) 255 e
-    go false e = absurd (let x = ok .ready (eqb-false (getD b 15 0) 255 e) (λ y. omega arith) in omega arith)
 
 module _ (family : Family) (m e : ℕ) (bytes b : List ℕ) (f : Bytes b) (ok : LabelFine b) where
   pub first : nextLabel (bare (k.Inventory family true m e)) bytes b ≡ during family m e 0 b

@@ -9,7 +9,7 @@ use lib.ListN.{getD}
 use borrow.Author.Tests.{eqb-true, eqb-false, ltb-true, ltb-false, not-false}
 use Rattle.frame.specs.Choose.{if_then_else_, bit, set?}
 use Rattle.frame.specs.Ending.{endsIn, endsInSlot}
-use Rattle.frame.proofs.Bools.{and-both}
+use Rattle.frame.proofs.Bools.{and-both, if-either}
 use Rattle.label.specs.declared.request.Target.{Target}
 use Rattle.label.specs.declared.request.Family.{Family}
 use Rattle.label.specs.declared.request.Order.{Order}
@@ -63,8 +63,7 @@ pub data Way (call : Call) (count lock : ℕ) (l : Label) : Stepped → Type 0 w
 module _ (call : Call) (count lock : ℕ) (l : Label) where
   either : (t : Bool) {x y : Stepped} → (t ≡ true → Way call count lock l x) → (t ≡ false → Way call count lock l y)
       → Way call count lock l (if t then x else y)
-  either true f g = f refl
-  either false f g = g refl
+  either t {x} {y} f g = if-either (Way call count lock l) t x y f g
 
   awake-way : (s : Stepped) → Way call count lock l s → Way call count lock l (awake s l)
   awake-way s x = either (eqb (l .state) 0) (λ e. stays) (λ e. x)

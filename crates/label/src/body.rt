@@ -4,6 +4,7 @@ use crate::request::Order;
 use crate::request::Request;
 use crate::step::Answer;
 use crate::step::Label;
+use crate::step::Stepped;
 use crate::step::Work;
 use frame::number::byte_at;
 use frame::number::number_at;
@@ -13,7 +14,7 @@ use frame::uid::uid_at;
 ghost use mathlib.Core.Path.{_≡_};
 ghost use Prim.Native.Nat.{_≤_};
 ghost use lib.ListN.{length};
-ghost use Rattle.label.specs.Body.{Sized, Fits, loadOf, storeOf, blockAt, lockOf, named, worked, nextLabel, saidLabel};
+ghost use Rattle.label.specs.Body.{Sized, Fits, loadOf, storeOf, blockAt, lockOf, named, worked, stepped, nextLabel, saidLabel};
 
 // The label that a body holds.
 pub fn load(b: &[u8]) -> Label
@@ -98,15 +99,23 @@ fn do_work(b: &mut [u8], work: Work, data: &[u8])
     }
 }
 
+// The step of the label that a body holds; count bytes were sent.
+fn act_on(b: &[u8], r: Request, count: usize) -> Stepped
+    requires { ⌜ 32 ≤ length (now b) ⌝ }
+    ensures { λ s. ⌜ s ≡ stepped r count (now (b .entry)) ⌝ }
+{
+    let l = load(b);
+    let call = r.call;
+    let k = named_lock(b, call);
+    l.act(r, count, k)
+}
+
 // What a label answers to a request; its body stays.
 pub fn said(b: &[u8], r: Request, data: &[u8]) -> Answer
     requires { ⌜ 32 ≤ length (now b) ⌝ }
     ensures { λ a. ⌜ a ≡ saidLabel r (length (now («data» .entry))) (now (b .entry)) ⌝ }
 {
-    let l = load(b);
-    let call = r.call;
-    let k = named_lock(b, call);
-    let stepped = l.act(r, data.len(), k);
+    let stepped = act_on(b, r, data.len());
     stepped.answer
 }
 
@@ -115,10 +124,7 @@ pub fn step(b: &mut [u8], r: Request, data: &[u8]) -> Answer
     requires { ⌜ Sized (now b) ⌝ }
     ensures { λ a. ⌜ (a ≡ saidLabel r (length (now («data» .entry))) (now (b .entry))) × (now (b .exit) ≡ nextLabel r (now («data» .entry)) (now (b .entry))) ⌝ }
 {
-    let l = load(b);
-    let call = r.call;
-    let k = named_lock(b, call);
-    let stepped = l.act(r, data.len(), k);
+    let stepped = act_on(b, r, data.len());
     let next = stepped.next;
     store(b, next);
     let work = stepped.work;
