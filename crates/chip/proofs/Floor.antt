@@ -1,4 +1,4 @@
--- What the hospital floor asked of chips, for any order and draw: UID and option stay, counters fall, locks hold, bits only go down, SELECT clears reload.
+-- What the hospital's floor asked of a chip, for any order and draw: UID and option stay, counters fall, locks hold, bits only go down, SELECT clears reload.
 -- A block of the next body is the block before, or what a write to it left; each law is said of these two.
 -- Assumes nothing.
 use mathlib.Core.Path.{_≡_, refl, sym, ap, ap₂, _∙_, subst}
@@ -43,6 +43,7 @@ uid-stays order d b l =
     part-off (storeOf b c) (bytesOf 4 (written m (blockAt m b) v (getD b 78 0))) (placeOf m) 68 8 (inr (place-fits m))
     ∙ store-part b c 68 8 (omega arith))
 
+-- the fixed-ID option is no step's to change; a statement for the reader of document 01, which nothing cites
 pub fixed-stays : (order : Order) (d : ℕ) (b : List ℕ) → getD (nextChip order d b) 79 0 ≡ getD b 79 0
 unfolding nextChip
 fixed-stays order d b =
@@ -271,7 +272,7 @@ reload-cleared id d b l h =
 
 -- ---- events for labels
 
--- what is ignored changes nothing and is not answered
+-- document 01, "Events": chips ignore 3 and 4, and what is ignored changes nothing and is not answered; a statement, which nothing cites
 pub ignores-3-4 : (f : List ℕ) (d : ℕ) (b : List ℕ)
     → (heard 3 f ≡ o.Ignored) × (heard 4 f ≡ o.Ignored) × (nextChip o.Ignored d b ≡ b) × (saidChip o.Ignored d b ≡ Silent)
 unfolding heard nextChip saidChip stepped act worked

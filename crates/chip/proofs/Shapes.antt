@@ -1,4 +1,5 @@
--- What code needs of the definitions: where they test in another order, where an enum is not of one variant, where a block stands.
+-- What code needs of the definitions: four bytes fit a word, how a counter falls, where a block stands, and that only a write names a block.
+-- By the cases of a test, or of the enum.
 -- Assumes nothing.
 use mathlib.Core.Path.{_≡_, refl}
 use mathlib.Core.List.{List, [], _∷_}

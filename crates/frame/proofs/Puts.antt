@@ -1,5 +1,6 @@
 -- Writers. A loop that stores a run keeps "what is still to be written leads to the same end", so a turn takes one element off the front.
--- A straight line of puts is followed by one record, `Laid`: the front of the old buffer is covered by what was put so far.
+-- A straight line of puts is followed by one record, `Laid`: the front of the old buffer is covered by what was put so far. A buffer's own front is laid
+-- too, so `seal_part` covers it anew with the frame of that front and the part.
 -- Assumes nothing.
 use mathlib.Core.Path.{_≡_, refl, ap, sym, _∙_}
 use mathlib.Core.Bool.{Bool, true}

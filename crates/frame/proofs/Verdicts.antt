@@ -63,6 +63,10 @@ module _ (f : ℕ → Verdict) where
       (λ (q : i < n). rw (first-stops n i q p z) (else-bad (f i) (f n) z))
       (eq-or-lt-of-le m)
 
+  pub first-bad : (n i k p : ℕ) → i < n → firstOf i f ≡ fine → f i ≡ bad (suc k) p → bad (suc k) p ≡ firstOf n f
+  first-bad n i k p h q v =
+      sym (first-stops n i h q (λ (y : f i .number ≡ 0). not-none k (ap (λ (u : Verdict). u .number) (sym v) ∙ y)) ∙ v)
+
   -- where all is fine, each is
   pub first-each : (n i : ℕ) → firstOf n f .number ≡ 0 → i < n → f i .number ≡ 0
   first-each zero i e h = absurd (omega arith)
@@ -101,12 +105,7 @@ module _ (b : List ℕ) (at most : ℕ) where
 
   module _ (n i : ℕ) (h : i < n) (none : firstOf i (byteVerdict b at most) ≡ fine) where
     pub byte-bad : most < getD b (at + i) 0 → bad 13 (at + i) ≡ firstOf n (byteVerdict b at most)
-    byte-bad z =
-        let v = over i z in
-        sym
-        (first-stops (byteVerdict b at most) n i h none
-        (λ (y : byteVerdict b at most i .number ≡ 0). not-none 12 (ap (λ (u : Verdict). u .number) (sym v) ∙ y))
-        ∙ v)
+    byte-bad z = first-bad (byteVerdict b at most) n i 12 (at + i) h none (over i z)
 
     pub byte-fine : getD b (at + i) 0 ≤ most → firstOf (i + 1) (byteVerdict b at most) ≡ fine
     byte-fine z = first-more (byteVerdict b at most) i none (within i z)

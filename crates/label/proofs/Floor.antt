@@ -231,7 +231,7 @@ module _ (uid : List ℕ) (b : List ℕ) (long : 25 ≤ length b) (q : getD b 14
   pub select-other-silent : (n : ℕ) → saidLabel (record { uid = uid; call = k.Ask t.One o.Select }) n b ≡ a.Silent
   select-other-silent n = said-silent _ n b (withState 1 (ended (loadOf b))) (other-stepped n)
 
--- state 0: every call but Off and On is ignored
+-- state 0, document 01, "Events": every call but Off and On is ignored. `off-silent` and `off-ignores` are statements, which nothing cites
 off-called : (call : Call) (uid : List ℕ) (n lock : ℕ) (l : Label) → eqb (l .state) 0 ≡ true → (call ≡ k.Off → ⊥) → (call ≡ k.On → ⊥)
     → called call uid n lock l ≡ silent l
 unfolding called
@@ -253,7 +253,7 @@ module _ (r : Request) (b : List ℕ) (q : getD b 14 0 ≡ 0) (f : r .call ≡ k
   pub off-ignores : (bytes : List ℕ) → Bytes b → 25 ≤ length b → nextLabel r bytes b ≡ b
   off-ignores bytes c long = next-silent r bytes b (loadOf b) (off-stepped (length bytes)) ∙ store-load b c long
 
--- an order that is at fault before any label is looked at moves no state: one that is selected stays so
+-- an order that is at fault before any label is looked at moves no state: one that is selected stays so (a statement, which nothing cites)
 module _ (uid : List ℕ) (to : Target) (e : ℕ) (b : List ℕ) where
   fault-state : (n : ℕ) → stepped (record { uid = uid; call = k.Ask to (o.Fault e) }) n b .next .state ≡ getD b 14 0
   unfolding stepped act called asked perform passed ended loadOf

@@ -1,7 +1,7 @@
 -- The judge's own steps: a byte of the mask against the mask's length, by how many bits are left for it; the loop over the mask's eight bytes;
 -- a body that its head's rules allow is long enough for its lock bytes.
 -- Assumes nothing.
-use mathlib.Core.Path.{_≡_, refl, sym, ap, _∙_}
+use mathlib.Core.Path.{_≡_, refl, sym, _∙_}
 use mathlib.Core.Bool.{Bool, true, false, not}
 use mathlib.Core.List.{List}
 use Prim.Native.Nat.{ℕ, zero, suc, _+_, _-_, _*_, _^_, _≤_, _<_}
@@ -13,7 +13,7 @@ use lib.ListN.{length, getD}
 use borrow.Author.Tests.{lt-ltb, le-ltb, le-leb, lt-leb, eq-eqb, ne-eqb, eqb-true, not-false}
 use Rattle.frame.specs.declared.verdict.Verdict.{Verdict}
 use Rattle.frame.specs.Judge.{fine, bad, firstOf, byteVerdict}
-use Rattle.frame.proofs.Verdicts.{first-more, first-stops, not-none, if-fine}
+use Rattle.frame.proofs.Verdicts.{first-more, first-bad, not-none, if-fine}
 use Rattle.label.specs.Body.{blocksOf, sizeOf, Sized, headRules, slotRules, over, maskVerdict, labelRules}
 
 -- ---- one byte of the mask
@@ -48,12 +48,7 @@ module _ (b : List ℕ) (i : ℕ) where
 
   module _ (none : firstOf i (maskVerdict b) ≡ fine) where
     pub mask-bad : i < 8 → {t : Bool} → t ≡ over b i → t ≡ true → bad 13 (17 + i) ≡ firstOf 8 (maskVerdict b)
-    mask-bad h e z =
-        let v = verdict-bad (sym e ∙ z) in
-        sym
-        (first-stops (maskVerdict b) 8 i h none
-        (λ (y : maskVerdict b i .number ≡ 0). not-none 12 (ap (λ (u : Verdict). u .number) (sym v) ∙ y))
-        ∙ v)
+    mask-bad h e z = first-bad (maskVerdict b) 8 i 12 (17 + i) h none (verdict-bad (sym e ∙ z))
 
     pub mask-fine : {t : Bool} → t ≡ over b i → t ≡ false → firstOf (i + 1) (maskVerdict b) ≡ fine
     mask-fine e z = first-more (maskVerdict b) i none (verdict-fine (sym e ∙ z))

@@ -1,4 +1,4 @@
--- The ways out of the request's functions where a test is on more than plain numbers: each rule of `masked`, `decode` and `dataOf`, by the facts that choose its case.
+-- The ways out of the request's functions where a test is on more than plain numbers: each rule of `masked`, `checked`, `decode` and `dataOf`, by the facts that choose its case.
 -- Assumes nothing.
 use mathlib.Core.Path.{_≡_, _∙_}
 use mathlib.Core.Bool.{Bool, true, false}

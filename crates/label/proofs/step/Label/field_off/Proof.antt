@@ -1,4 +1,4 @@
--- Three steps on a row.
+-- Three calls in a row.
 -- Assumes nothing.
 use mathlib.Core.Path.{_∙_}
 use borrow.Author.Needs.{needs}
