@@ -3,31 +3,24 @@
 -- Assumes nothing.
 use mathlib.Core.Path.{_≡_, refl}
 use mathlib.Core.List.{List, [], _∷_}
-use Prim.Native.Nat.{ℕ, _+_, _-_, _*_, _^_, _≤_, _<_}
+use Prim.Native.Nat.{ℕ, _+_, _*_, _^_, _≤_, _<_}
 use native.Mathlib.Omega.{arith}
 use lib.Dec.{ltb}
 use lib.ListN.{drop, length-take}
 use types.Run.{OneOf, miss}
 use denote.Enum.Declared.{tagOf}
-use borrow.Author.Tests.{ltb-true, ltb-false}
+use borrow.Author.Tests.{ltb-true}
 use Rattle.frame.specs.Number.{num, part, Bytes}
 use Rattle.frame.proofs.Bools.{if-either}
 use Rattle.frame.proofs.Numbers.{num-lt, bytes-part}
 use Rattle.chip.specs.declared.request.Order.{Order}
 use Rattle.chip.specs.declared.request.Order.the-variants as o
-use Rattle.chip.specs.Write.{countDown}
 use Rattle.chip.specs.Body.{named, placeOf}
 use Rattle.chip.proofs.request.Order.{the-type}
 
 -- four bytes make a number below 2 ^ 32
 pub word-lt : (at : ℕ) (s : List ℕ) → Bytes s → num (part at 4 s) < 2 ^ 32
 word-lt at s h = num-lt 4 (part at 4 s) (bytes-part at 4 s h) (rw (length-take 4 (drop at s)) (omega arith))
-
--- what is left of a counter that falls to w, where that is less
-pub falls : (old w : ℕ) → old - (old - w) ≡ countDown old w
-unfolding countDown
-falls old w =
-    if-either (λ (x : ℕ). old - (old - w) ≡ x) (ltb w old) w old (λ e. omega (arith, ltb-true w old e)) (λ e. omega (arith, ltb-false w old e))
 
 -- a block stands before the UID
 pub place-fits : (n : ℕ) → placeOf n + 4 ≤ 68

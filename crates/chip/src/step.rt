@@ -2,7 +2,6 @@
 use crate::request::Order;
 ghost use mathlib.Core.Path.{_≡_};
 ghost use mathlib.Core.Bool.{_||_};
-ghost use Prim.Native.Nat.{_-_};
 ghost use lib.Dec.{eqb};
 ghost use Rattle.chip.specs.Step.{silent, told, chosen, off, on, initiate, pcall, marker, select, leave, read, uid, write, act};
 ghost use Rattle.chip.specs.Write.{countDown, lockDown, locked, reloads, written};
@@ -35,21 +34,14 @@ pub struct Stepped {
     pub work: Work,
 }
 
-// How far a counter falls when new is written: to it, where it is less.
-fn fall(old: u32, new: u32) -> u32
-    ensures { λ r. ⌜ r ≡ old - new ⌝ }
-{
-    if new < old {
-        return old - new;
-    }
-    0
-}
-
-// A counter becomes what is written where that is less: it only ever falls.
+// A counter becomes what is written where that is less.
 pub fn count_down(old: u32, new: u32) -> u32
     ensures { λ r. ⌜ r ≡ countDown old new ⌝ }
 {
-    old - fall(old, new)
+    if new < old {
+        return new;
+    }
+    old
 }
 
 // Bits 31 to 16 become o AND w, the rest stay.

@@ -1,16 +1,14 @@
--- What is left of the old counter after its fall is the definition's choice.
+-- One test.
 -- Assumes nothing.
-use mathlib.Core.Path.{_∙_, ap}
-use Prim.Native.Nat.{ℕ, _-_}
-use borrow.Author.Needs.{needs}
-use Rattle.chip.proofs.Shapes.{falls}
+use Rattle.chip.specs.Write.{countDown}
+use Rattle.frame.proofs.Tests.{tests}
 use Rattle.chip.proofs.step.count_down.Statement.{statement}
 use Rattle.chip.proofs.step.count_down.Tie as tie
 
 pub count-down-spec : {M : Type 1} → statement M
+unfolding countDown
 count-down-spec =
     tie.close
     (tie.spec
-    (λ c κs. search needs)
-    (λ c. search needs)
-    (λ c. let a = c .before .args in ap (λ (x : ℕ). a .old - x) (c .fall .ensures) ∙ falls (a .old) (a .new)))
+    (λ c. search tests)
+    (λ c. search tests))
