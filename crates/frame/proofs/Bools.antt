@@ -55,6 +55,10 @@ pub or-either : (t u : Bool) → (t || u) ≡ true → (t ≡ true) ⊎ (u ≡ t
 or-either true u e = inl refl
 or-either false u e = inr e
 
+pub or-right : (t u : Bool) → u ≡ true → (t || u) ≡ true
+or-right true u e = refl
+or-right false u e = e
+
 pub or-off : (t u : Bool) → (t || u) ≡ false → (t ≡ false) × (u ≡ false)
 or-off true u e = absurd (false≢true (sym e))
 or-off false u e = (refl, e)

@@ -11,7 +11,6 @@ use native.Mathlib.Omega.{arith}
 use lib.Dec.{lit<}
 use lib.ListN.{length, take, getD}
 use lib.Seq.{take-suc, take-all}
-use lib.Pow.{pow-pos, split}
 use lib.Bits.{bitXor, differ, xor-zero-r, xor-lt, xor-self, xor-comm, xor-shifted, shifted-half, shifted-even}
 use Rattle.frame.specs.Number.{Bytes}
 use Rattle.frame.specs.CheckSum.{polynomial, crcBit, crcBits, crcByte, crcRun, crcEnd, crcWith, residue}

@@ -13,6 +13,7 @@ use lib.ListN.{length, getD, drop}
 use lib.Seq.{take-take, getD-take, getD-drop}
 use Rattle.frame.specs.Choose.{if_then_else_, gather}
 use Rattle.frame.specs.Number.{num, part}
+use Rattle.frame.proofs.Bools.{or-right, or-off}
 use Rattle.label.specs.Step.{passes}
 use Rattle.label.specs.Slots.{on}
 use Rattle.label.specs.declared.request.Family.the-variants.{Any}
@@ -79,14 +80,6 @@ module _ (rack : List ℕ) (at len k : ℕ) (long : 32 ≤ len) where
 or-left : (p q : Bool) → p ≡ true → (p || q) ≡ true
 or-left true q h = refl
 or-left false q h = absurd (let z : _≡_ {A = ℕ} 0 1 = cc in omega arith)
-
-or-right : (p q : Bool) → q ≡ true → (p || q) ≡ true
-or-right true q h = refl
-or-right false q h = h
-
-or-no : (p q : Bool) → (p || q) ≡ false → (p ≡ false) × (q ≡ false)
-or-no true q h = absurd (let z : _≡_ {A = ℕ} 0 1 = cc in omega arith)
-or-no false q h = (refl, h)
 
 any-stops : (n i : ℕ) (f : ℕ → Bool) → i < n → f i ≡ true → anyOf n f ≡ true
 unfolding anyOf
@@ -190,7 +183,7 @@ distinct-to : (r : List ℕ) (n : ℕ) → anyOf n (repeats r) ≡ false → Dis
 unfolding anyOf uidsTo gather
 distinct-to r zero h v = omega arith
 distinct-to r (suc n) h v =
-    let o = or-no (anyOf n (repeats r)) (repeats r n) h in
+    let o = or-off (anyOf n (repeats r)) (repeats r n) h in
     let g = uidsTo Any r n in
     let e = count-append v g (uidAt Any (kindAt r n) (bodyAt r n)) in
     let i = distinct-to r n (o .0) v in

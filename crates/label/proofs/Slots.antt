@@ -180,7 +180,7 @@ module _ (s m e : ℕ) (b : List ℕ) (long : 25 ≤ length b) (he : e < 256 ^ 8
 -- ---- in slot s
 
 module _ (family : Family) (m e s : ℕ) (b : List ℕ) where
-  during-on : on family b ≡ true → during family m e s b ≡ seek s m e b
+  pub during-on : on family b ≡ true → during family m e s b ≡ seek s m e b
   unfolding during
   during-on h = rw h
 

@@ -9,7 +9,7 @@ use native.Mathlib.Nat.{eq-or-lt-of-le, add-sub-cancel-left}
 use native.Mathlib.Numerals.{add-one}
 use native.Mathlib.Omega.{arith}
 use lib.ListN.{length, getD, take, drop, length-drop}
-use lib.Seq.{drop-at, take-at, take-take, getD-take, length-take-le, drop-append-le, take-append-le}
+use lib.Seq.{drop-at, take-at, take-take, getD-take, drop-append-le, take-append-le}
 use Rattle.frame.specs.Choose.{gather}
 use Rattle.frame.specs.Number.{num, part, splice}
 use Rattle.frame.proofs.Lists.{gather-none, gather-suc}
@@ -31,9 +31,6 @@ part-front zero k n xs h = take-take k n xs (omega arith)
 part-front (suc at) k zero xs h = absurd (omega arith)
 part-front (suc at) k (suc n) [] h = refl
 part-front (suc at) k (suc n) (x ∷ xs) h = part-front at k n xs (omega arith)
-
-pub part-length : (at len : ℕ) (xs : List ℕ) → at + len ≤ length xs → length (part at len xs) ≡ len
-part-length at len xs h = length-take-le len (drop at xs) (omega (arith, length-drop at xs))
 
 -- a part as `&s[at..at + len]` lends it
 pub span-part : (at len : ℕ) (xs : List ℕ) → take ((at + len) - at) (drop at xs) ≡ part at len xs

@@ -13,8 +13,9 @@ use Rattle.frame.specs.Choose.{gather}
 use Rattle.frame.specs.Number.{part, Bytes}
 use Rattle.frame.proofs.Lists.{gather-none, gather-suc}
 use Rattle.frame.proofs.Numbers.{bytes-take, bytes-append}
+use Rattle.frame.proofs.Stores.{length-part}
 use Rattle.rack.specs.File.{countOf, entryAt, kindAt, lengthAt, offsetAt, startOf, bodyAt, contents, rebuilt}
-use Rattle.rack.proofs.Places.{part-at, part-in, part-length, gather-ext, start-none, start-suc, start-low, start-mono, count-same, kind-same, length-same, offset-same, start-same}
+use Rattle.rack.proofs.Places.{part-at, part-in, gather-ext, start-none, start-suc, start-low, start-mono, count-same, kind-same, length-same, offset-same, start-same}
 
 -- ---- the bodies of r and their lengths
 module _ (r : List ℕ) (whole : startOf r (countOf r) ≡ length r) where
@@ -25,7 +26,7 @@ module _ (r : List ℕ) (whole : startOf r (countOf r) ≡ length r) where
   body-inside i h = omega (arith, start-mono r i (countOf r) h)
 
   pub body-long : (i : ℕ) → i < countOf r → length (bodyAt r i) ≡ lengthAt r i
-  body-long i h = part-length (startOf r i) (lengthAt r i) r (body-inside i h)
+  body-long i h = length-part (startOf r i) (lengthAt r i) r (body-inside i h)
 
   -- the first i bodies
   own : (i : ℕ) → i ≤ countOf r → contents r ++ gather i (bodyAt r) ≡ take (startOf r i) r

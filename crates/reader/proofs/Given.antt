@@ -16,7 +16,7 @@ use Rattle.frame.specs.Choose.{if_then_else_}
 use Rattle.frame.specs.Number.{num, part, Bytes}
 use Rattle.frame.specs.CheckSum.{right, content, framed}
 use Rattle.frame.specs.Ending.{endsIn, endsInSlot}
-use Rattle.frame.proofs.Bools.{and-both, eqb-same, if-true, if-false}
+use Rattle.frame.proofs.Bools.{and-both, or-right, eqb-same, if-true, if-false}
 use Rattle.frame.proofs.Frames.{right-framed}
 use Rattle.frame.proofs.Lists.{window, window-take, window-all}
 use Rattle.frame.proofs.Numbers.{bytes-take, bytes-drop, bytes-part}
@@ -34,7 +34,7 @@ use Rattle.label.specs.Step as steps
 use Rattle.label.specs.Body as label
 use Rattle.label.specs.Answer.{speaks, blockBytes, answerFrame}
 use Rattle.label.specs.Facts.{LabelFine}
-use Rattle.label.specs.Slots.{on, during, seek}
+use Rattle.label.specs.Slots.{on, during}
 use Rattle.reader.specs.declared.command.Task.{Task}
 use Rattle.reader.specs.declared.command.Task.the-variants as t
 use Rattle.reader.specs.declared.command.Command.{Command}
@@ -54,7 +54,7 @@ use Rattle.reader.proofs.Gives.{Success, after-slot}
 use Rattle.reader.proofs.Made.{bytes-same, made, Body, made-body}
 use Rattle.label.proofs.Fine.{fine-rules}
 use Rattle.label.proofs.Room.{sized-long}
-use Rattle.label.proofs.Slots.{during-uid, said-first, said-step, seek-getD, found-frame}
+use Rattle.label.proofs.Slots.{during-on, during-uid, said-first, said-step, seek-getD, found-frame}
 
 -- ---- a frame that is read
 
@@ -367,14 +367,10 @@ abbrev familyAfi : Family → ℕ
 familyAfi Any = 0
 familyAfi (Only afi) = afi
 
-or-true : (x y : Bool) → y ≡ true → (x || y) ≡ true
-or-true true y e = refl
-or-true false y e = e
-
 family-passes : (family : Family) → steps.passes family (familyAfi family) ≡ true
 unfolding steps.passes
 family-passes Any = refl
-family-passes (Only afi) = or-true (eqb afi 0) (eqb afi afi) (eq-eqb afi afi refl)
+family-passes (Only afi) = or-right (eqb afi 0) (eqb afi afi) (eq-eqb afi afi refl)
 
 afi-small : (family : Family) → RangedFamily family → familyAfi family < 256
 unfolding RangedFamily
@@ -448,15 +444,11 @@ slot-ends : (u : List ℕ) (mask x q : ℕ) → endsIn u mask x ≡ true → num
 unfolding endsInSlot
 slot-ends u mask x q e i = ap₂ _&&_ e (eq-eqb (num u / 2 ^ x % 16) q i)
 
-seeking : (family : Family) (x e q : ℕ) (b : List ℕ) → on family b ≡ true → during family x e q b ≡ seek q x e b
-unfolding during
-seeking family x e q b o = if-true (on family b) _ _ o
-
 slot-frame : (family : Family) (x e q : ℕ) (b : List ℕ) → on family b ≡ true
     → answerFrame a.Found (during family x e q b) ≡ framed (0 ∷ getD b 8 0 ∷ part 0 8 b)
 slot-frame family x e q b o =
     found-frame (during family x e q b)
-    ∙ ap₂ (λ (n : ℕ) (l : List ℕ). framed (0 ∷ n ∷ l)) (ap (λ (l : List ℕ). getD l 8 0) (seeking family x e q b o) ∙ seek-getD q x e b 8 (lit< tt))
+    ∙ ap₂ (λ (n : ℕ) (l : List ℕ). framed (0 ∷ n ∷ l)) (ap (λ (l : List ℕ). getD l 8 0) (during-on family x e q b o) ∙ seek-getD q x e b 8 (lit< tt))
     (during-uid family x e q b)
 
 module _ (to : Target) (opt : Bool) (family : Family) (x mask : ℕ) (uid d f : List ℕ) (v : valid (c.Inventory to opt family true x mask) (length d) ≡ true)

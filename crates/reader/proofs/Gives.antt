@@ -11,11 +11,11 @@ use lib.Dec.{eqb, ltb}
 use lib.ListN.{length, getD}
 use lib.Seq.{length-take-le}
 use borrow.Author.Tests.{eqb-true, ne-eqb, ltb-true, ltb-false}
-use Rattle.frame.specs.Choose.{if_then_else_, bit, set?}
+use Rattle.frame.specs.Choose.{bit, set?}
 use Rattle.frame.specs.Number.{num, part, Bytes}
 use Rattle.frame.specs.Ending.{endsIn, endsInSlot}
 use Rattle.frame.specs.declared.verdict.Verdict.{Verdict}
-use Rattle.frame.proofs.Bools.{and-both, eqb-same}
+use Rattle.frame.proofs.Bools.{and-both, eqb-same, if-either}
 use Rattle.label.specs.declared.request.Target.{Target}
 use Rattle.label.specs.declared.request.Target.the-variants.{Everyone, Selected, One}
 use Rattle.label.specs.declared.request.Family.{Family}
@@ -57,11 +57,6 @@ use Rattle.reader.proofs.Read.{and-false, answersDone, error-read, done
 use Rattle.label.proofs.Fine.{rules-fine}
 use Rattle.label.proofs.Room.{sized-long}
 use Rattle.label.proofs.Slots.{during-uid, first, last, said-last, said-step, step}
-
--- what holds of both sides holds of a choice
-pick : {A : Type 0} (P : A → Type 0) (x : Bool) (l r : A) → (x ≡ true → P l) → (x ≡ false → P r) → P (if x then l else r)
-pick P true l r f g = f refl
-pick P false l r f g = g refl
 
 -- a success
 abbrev pub Success : Reading → Type 0
@@ -107,32 +102,32 @@ unfolding steps.perform orderOf steps.readBlock steps.writeBlock steps.lockBlock
 perform-fits to opt t.Quiet uid n b v ok o count lock = quiet-fits to opt t.Quiet uid n b v ok
 perform-fits to opt (t.Read x) uid n b v ok o count lock =
     let P = Fits to opt (t.Read x) uid n b v ok in
-    pick P (ltb (getD b 11 0) x) _ _ (λ q. error-fits to opt (t.Read x) uid n b v ok 0x10 refl refl) (λ q. block-fits to opt x uid n b v ok (ltb-false (getD b 11 0) x q))
+    if-either P (ltb (getD b 11 0) x) _ _ (λ q. error-fits to opt (t.Read x) uid n b v ok 0x10 refl refl) (λ q. block-fits to opt x uid n b v ok (ltb-false (getD b 11 0) x q))
 perform-fits to opt (t.Write x) uid n b v ok o count lock =
     let P = Fits to opt (t.Write x) uid n b v ok in
     let E = error-fits to opt (t.Write x) uid n b v ok in
-    pick P (not (eqb count (getD b 12 0 + 1))) _ _ (λ q. E 0x02 refl refl)
-    (λ q. pick P opt _ _ (λ q. E 0x03 refl refl)
-    (λ q. pick P (ltb (getD b 11 0) x) _ _ (λ q. E 0x10 refl refl)
-    (λ q. pick P (eqb lock 1) _ _ (λ q. E 0x12 refl refl) (λ q. done-fits to opt (t.Write x) uid n b v ok refl))))
+    if-either P (not (eqb count (getD b 12 0 + 1))) _ _ (λ q. E 0x02 refl refl)
+    (λ q. if-either P opt _ _ (λ q. E 0x03 refl refl)
+    (λ q. if-either P (ltb (getD b 11 0) x) _ _ (λ q. E 0x10 refl refl)
+    (λ q. if-either P (eqb lock 1) _ _ (λ q. E 0x12 refl refl) (λ q. done-fits to opt (t.Write x) uid n b v ok refl))))
 perform-fits to opt (t.Lock x) uid n b v ok o count lock =
     let P = Fits to opt (t.Lock x) uid n b v ok in
     let E = error-fits to opt (t.Lock x) uid n b v ok in
-    pick P (ltb (getD b 11 0) x) _ _ (λ q. E 0x10 refl refl)
-    (λ q. pick P (eqb lock 1) _ _ (λ q. E 0x11 refl refl) (λ q. done-fits to opt (t.Lock x) uid n b v ok refl))
+    if-either P (ltb (getD b 11 0) x) _ _ (λ q. E 0x10 refl refl)
+    (λ q. if-either P (eqb lock 1) _ _ (λ q. E 0x11 refl refl) (λ q. done-fits to opt (t.Lock x) uid n b v ok refl))
 perform-fits to opt t.Select uid n b v ok o count lock = done-fits to opt t.Select uid n b v ok refl
 perform-fits to opt t.Ready uid n b v ok o count lock = done-fits to opt t.Ready uid n b v ok refl
 perform-fits to opt (t.WriteAfi x) uid n b v ok o count lock =
-    pick (Fits to opt (t.WriteAfi x) uid n b v ok) (set? (bit 0 (getD b 10 0))) _ _
+    if-either (Fits to opt (t.WriteAfi x) uid n b v ok) (set? (bit 0 (getD b 10 0))) _ _
     (λ q. error-fits to opt (t.WriteAfi x) uid n b v ok 0x12 refl refl) (λ q. done-fits to opt (t.WriteAfi x) uid n b v ok refl)
 perform-fits to opt t.LockAfi uid n b v ok o count lock =
-    pick (Fits to opt t.LockAfi uid n b v ok) (set? (bit 0 (getD b 10 0))) _ _
+    if-either (Fits to opt t.LockAfi uid n b v ok) (set? (bit 0 (getD b 10 0))) _ _
     (λ q. error-fits to opt t.LockAfi uid n b v ok 0x11 refl refl) (λ q. done-fits to opt t.LockAfi uid n b v ok refl)
 perform-fits to opt (t.WriteDsfid x) uid n b v ok o count lock =
-    pick (Fits to opt (t.WriteDsfid x) uid n b v ok) (set? (bit 1 (getD b 10 0))) _ _
+    if-either (Fits to opt (t.WriteDsfid x) uid n b v ok) (set? (bit 1 (getD b 10 0))) _ _
     (λ q. error-fits to opt (t.WriteDsfid x) uid n b v ok 0x12 refl refl) (λ q. done-fits to opt (t.WriteDsfid x) uid n b v ok refl)
 perform-fits to opt t.LockDsfid uid n b v ok o count lock =
-    pick (Fits to opt t.LockDsfid uid n b v ok) (set? (bit 1 (getD b 10 0))) _ _
+    if-either (Fits to opt t.LockDsfid uid n b v ok) (set? (bit 1 (getD b 10 0))) _ _
     (λ q. error-fits to opt t.LockDsfid uid n b v ok 0x11 refl refl) (λ q. done-fits to opt t.LockDsfid uid n b v ok refl)
 perform-fits to opt t.Info uid n b v ok o count lock = λ s. as-read _ _ (info-read to opt uid n b v ok o) refl
 
@@ -143,7 +138,7 @@ passed-silent t.Quiet opt l = refl
 passed-silent (t.Read x) opt l = refl
 passed-silent (t.Write x) opt l = refl
 passed-silent (t.Lock x) opt l = refl
-passed-silent t.Select opt l = pick (λ (s : steppedLabel.Stepped). s .answer ≡ a.Silent) (eqb (l .state) 3) _ _ (λ q. refl) (λ q. refl)
+passed-silent t.Select opt l = if-either (λ (s : steppedLabel.Stepped). s .answer ≡ a.Silent) (eqb (l .state) 3) _ _ (λ q. refl) (λ q. refl)
 passed-silent t.Ready opt l = refl
 passed-silent (t.WriteAfi x) opt l = refl
 passed-silent t.LockAfi opt l = refl
@@ -157,8 +152,8 @@ unfolding label.saidLabel label.stepped steps.act steps.called steps.asked label
 meant-fits to opt task uid n b v ok count =
     let l = label.loadOf b in
     let P = Fits to opt task uid n b v ok in
-    pick P (eqb (l .state) 0) _ _ (λ q. quiet-fits to opt task uid n b v ok)
-    (λ q. pick P (steps.acts to (uidMeant to uid) l) _ _ (λ w. perform-fits to opt task uid n b v ok (owner to uid b w) count _)
+    if-either P (eqb (l .state) 0) _ _ (λ q. quiet-fits to opt task uid n b v ok)
+    (λ q. if-either P (steps.acts to (uidMeant to uid) l) _ _ (λ w. perform-fits to opt task uid n b v ok (owner to uid b w) count _)
     (λ w. subst (Heard to opt task uid n b v ok) (sym (passed-silent task opt (steps.ended l))) (quiet-fits to opt task uid n b v ok)))
 
 -- what a well-formed label answers to a label command is read
@@ -194,12 +189,12 @@ module _ (to : Target) (opt : Bool) (family : Family) (sixteen : Bool) (m mask :
   call-fits b count h =
       let l = label.loadOf b in
       let P = Finds b in
-      pick P (eqb (getD b 14 0) 0) _ _ (λ q. none-found b)
-      (λ q. pick P (steps.ready l && steps.passes family (getD b 9 0)) _ _
-      (λ q. pick P sixteen _ _
-      (λ q. pick P (endsIn (part 0 8 b) mask m && eqb (num (part 0 8 b) / 2 ^ m % 16) 0) _ _
+      if-either P (eqb (getD b 14 0) 0) _ _ (λ q. none-found b)
+      (λ q. if-either P (steps.ready l && steps.passes family (getD b 9 0)) _ _
+      (λ q. if-either P sixteen _ _
+      (λ q. if-either P (endsIn (part 0 8 b) mask m && eqb (num (part 0 8 b) / 2 ^ m % 16) 0) _ _
       (λ q. one-found b h (and-both (endsIn (part 0 8 b) mask m) (eqb (num (part 0 8 b) / 2 ^ m % 16) 0) q .0)) (λ q. none-found b))
-      (λ q. pick P (endsIn (part 0 8 b) mask m) _ _ (λ q. one-found b h q) (λ q. none-found b)))
+      (λ q. if-either P (endsIn (part 0 8 b) mask m) _ _ (λ q. one-found b h q) (λ q. none-found b)))
       (λ q. none-found b))
 
 uid-long : (b : List ℕ) → LabelFine b → length (part 0 8 b) ≡ 8
@@ -292,7 +287,7 @@ module _ (to : Target) (opt : Bool) (family : Family) (m mask : ℕ) (uid : List
       go : (z : Bool) → ltb s 15 ≡ z → Later (during family m mask s b)
       go true e =
           subst (Found to opt family true m mask uid n v (during family m mask s b)) (sym (said-step family m mask b ok (facts .0) (facts .1) s 0 (ltb-true s 15 e)))
-          (pick (Found to opt family true m mask uid n v (during family m mask s b)) (on family b && endsInSlot (part 0 8 b) mask m (suc s)) _ _ found
+          (if-either (Found to opt family true m mask uid n v (during family m mask s b)) (on family b && endsInSlot (part 0 8 b) mask m (suc s)) _ _ found
           (λ q. none-found to opt family true m mask uid n v (during family m mask s b)))
       go false e =
           let w : s ≡ 15 = omega (arith, ltb-false s 15 e, h) in
@@ -335,7 +330,7 @@ module _ (to : Target) (opt : Bool) (task : ChipTask) (uid : List ℕ) (n : ℕ)
 
   leave-told : (state : ℕ) (x : Chip) → Told (chipStep.leave state x)
   unfolding chipStep.leave
-  leave-told state x = pick Told (not (eqb (x .state) 3)) _ _ (λ q. none-told x) (λ q. none-told (chipStep.with state (x .id) 0 x))
+  leave-told state x = if-either Told (not (eqb (x .state) 3)) _ _ (λ q. none-told x) (λ q. none-told (chipStep.with state (x .id) 0 x))
 
 chip-told : (to : Target) (opt : Bool) (task : ChipTask) (uid d : List ℕ) (n : ℕ) (b : List ℕ) (draw : ℕ) → valid (c.Chip to opt task) n ≡ true → length b ≡ 80
     → Told to opt task uid n b (chip.stepped (chipMeant task d) draw b)
@@ -343,43 +338,43 @@ unfolding chip.stepped chipStep.act chipMeant chipStep.initiate chipStep.pcall c
 chip-told to opt p.Initiate uid d n b draw v h =
     let P = Told to opt p.Initiate uid n b in
     let x = chip.loadOf b in
-    pick P (eqb (x .state) 1 || eqb (x .state) 2) _ _ (λ q s. as-read _ _ (initiate-read to opt uid n (chipStep.chosen draw x) b v) refl)
+    if-either P (eqb (x .state) 1 || eqb (x .state) 2) _ _ (λ q s. as-read _ _ (initiate-read to opt uid n (chipStep.chosen draw x) b v) refl)
     (λ q. none-told to opt p.Initiate uid n b x)
 chip-told to opt p.Pcall uid d n b draw v h =
     let P = Told to opt p.Pcall uid n b in
     let x = chip.loadOf b in
     let r = chipStep.chosen draw x % 16 in
-    pick P (not (eqb (x .state) 2)) _ _ (λ q. none-told to opt p.Pcall uid n b x)
-    (λ q. pick P (eqb r 0) _ _
+    if-either P (not (eqb (x .state) 2)) _ _ (λ q. none-told to opt p.Pcall uid n b x)
+    (λ q. if-either P (eqb r 0) _ _
     (λ q s. let z : r ≡ 0 = eqb-true r 0 q in as-read _ _ (pcall-read to opt uid n (x .id / 16 * 16 + r) b v (omega arith)) refl)
     (λ q. none-told to opt p.Pcall uid n b (chipStep.with (x .state) (x .id / 16 * 16 + r) (x .reload) x)))
 chip-told to opt (p.Marker k) uid d n b draw v h =
     let P = Told to opt (p.Marker k) uid n b in
     let x = chip.loadOf b in
-    pick P (not (eqb (x .state) 2)) _ _ (λ q. none-told to opt (p.Marker k) uid n b x)
-    (λ q. pick P (eqb (x .id % 16) k) _ _ (λ q s. as-read _ _ (marker-read to opt k uid n (x .id) b v (eqb-true (x .id % 16) k q)) refl)
+    if-either P (not (eqb (x .state) 2)) _ _ (λ q. none-told to opt (p.Marker k) uid n b x)
+    (λ q. if-either P (eqb (x .id % 16) k) _ _ (λ q s. as-read _ _ (marker-read to opt k uid n (x .id) b v (eqb-true (x .id % 16) k q)) refl)
     (λ q. none-told to opt (p.Marker k) uid n b x))
 chip-told to opt (p.Select id) uid d n b draw v h =
     let P = Told to opt (p.Select id) uid n b in
     let x = chip.loadOf b in
-    pick P (not (eqb (x .id) id)) _ _ (λ q. leave-told to opt (p.Select id) uid n b 4 x)
-    (λ q. pick P (eqb (x .state) 2 || (eqb (x .state) 3 || eqb (x .state) 4)) _ _ (λ q s. as-read _ _ (select-read to opt id uid n b v) refl)
+    if-either P (not (eqb (x .id) id)) _ _ (λ q. leave-told to opt (p.Select id) uid n b 4 x)
+    (λ q. if-either P (eqb (x .state) 2 || (eqb (x .state) 3 || eqb (x .state) 4)) _ _ (λ q s. as-read _ _ (select-read to opt id uid n b v) refl)
     (λ q. none-told to opt (p.Select id) uid n b x))
 chip-told to opt p.Completion uid d n b draw v h = leave-told to opt p.Completion uid n b 5 (chip.loadOf b)
 chip-told to opt p.Reset uid d n b draw v h = leave-told to opt p.Reset uid n b 2 (chip.loadOf b)
 chip-told to opt (p.Read k) uid d n b draw v h =
     let x = chip.loadOf b in
-    pick (Told to opt (p.Read k) uid n b) (not (eqb (x .state) 3)) _ _ (λ q. none-told to opt (p.Read k) uid n b x)
+    if-either (Told to opt (p.Read k) uid n b) (not (eqb (x .state) 3)) _ _ (λ q. none-told to opt (p.Read k) uid n b x)
     (λ q s. as-read _ _ (word-read to opt k uid n b v h) refl)
 chip-told to opt p.Uid uid d n b draw v h =
     let x = chip.loadOf b in
-    pick (Told to opt p.Uid uid n b) (not (eqb (x .state) 3)) _ _ (λ q. none-told to opt p.Uid uid n b x)
+    if-either (Told to opt p.Uid uid n b) (not (eqb (x .state) 3)) _ _ (λ q. none-told to opt p.Uid uid n b x)
     (λ q s. as-read _ _ (uid-read to opt uid n b v h) refl)
 chip-told to opt (p.Write k) uid d n b draw v h =
     let P = Told to opt (p.Write k) uid n b in
     let x = chip.loadOf b in
-    pick P (not (eqb (x .state) 3)) _ _ (λ q. none-told to opt (p.Write k) uid n b x)
-    (λ q. pick P (locked (num (part 64 4 b)) k) _ _ (λ q. none-told to opt (p.Write k) uid n b x) (λ q s. absurd (false≢true s)))
+    if-either P (not (eqb (x .state) 3)) _ _ (λ q. none-told to opt (p.Write k) uid n b x)
+    (λ q. if-either P (locked (num (part 64 4 b)) k) _ _ (λ q. none-told to opt (p.Write k) uid n b x) (λ q s. absurd (false≢true s)))
 
 -- what a well-formed chip answers to a chip command is read
 pub chip-gives : (to : Target) (opt : Bool) (task : ChipTask) (uid d g : List ℕ) → valid (c.Chip to opt task) (length d) ≡ true

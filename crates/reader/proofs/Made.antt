@@ -13,6 +13,7 @@ use lib.Seq.{take-at, drop-at, getD-append-add}
 use Rattle.frame.specs.Number.{part, Bytes}
 use Rattle.frame.proofs.Lists.{window, window-all}
 use Rattle.frame.proofs.Numbers.{bytes-append}
+use Rattle.frame.proofs.Stores.{bytes-cons}
 use Rattle.label.specs.Body.{Sized, sizeOf, blockAt, lockAt}
 use Rattle.label.specs.Facts.{LabelFine}
 
@@ -20,10 +21,6 @@ use Rattle.label.specs.Facts.{LabelFine}
 
 pub bytes-none : Bytes []
 bytes-none i = lit< tt
-
-pub bytes-cons : (x : ℕ) (s : List ℕ) → x < 256 → Bytes s → Bytes (x ∷ s)
-bytes-cons x s h g zero = h
-bytes-cons x s h g (suc i) = g i
 
 pub bytes-same : (n x : ℕ) → x < 256 → Bytes (replicate n x)
 bytes-same zero x h = bytes-none

@@ -4,7 +4,8 @@ use mathlib.Core.Path.{_∙_, ap}
 use denote.Ref.{now}
 use borrow.Author.Needs.{needs}
 use Rattle.rack.specs.File.{kindAt, lengthFits}
-use Rattle.rack.proofs.Places.{span-part, part-length}
+use Rattle.frame.proofs.Stores.{length-part}
+use Rattle.rack.proofs.Places.{span-part}
 use Rattle.rack.proofs.Verdicts.{judged-short, judged-fine, judged-bad}
 use Rattle.frame.specs.Judge.{fine}
 use lib.ListN.{length}
@@ -22,7 +23,7 @@ judge-tag-requires c κs =
     let r = now (s .args .rack) in
     let n = c .before .before .length-of in
     ap (lengthFits (kindAt r (s .args .i)))
-    (ap length (span-part (s .args .at) (n .result) r) ∙ part-length (s .args .at) (n .result) r (c .before .if1 .left) ∙ n .ensures .0)
+    (ap length (span-part (s .args .at) (n .result) r) ∙ length-part (s .args .at) (n .result) r (c .before .if1 .left) ∙ n .ensures .0)
     ∙ s .pre .0 .fits
 
 returns-2 : tie.Need-returns-2

@@ -8,7 +8,7 @@ use lib.ListN.{length}
 use Rattle.frame.specs.Number.{part, Bytes}
 use Rattle.frame.proofs.Numbers.{num-lt, bytes-part}
 use Rattle.rack.specs.File.{entryAt}
-use Rattle.rack.proofs.Places.{part-length}
+use Rattle.frame.proofs.Stores.{length-part}
 use Rattle.rack.proofs.file.length_of.Statement.{statement}
 use Rattle.rack.proofs.file.length_of.Tie as tie
 
@@ -17,7 +17,7 @@ returns c =
     let s = c .before .before in
     let r = now (s .args .rack) in
     let at = entryAt (s .args .i) + 2 in
-    let n : length (part at 2 r) ≤ 2 = omega (arith, part-length at 2 r (omega (arith, s .pre .1))) in
+    let n : length (part at 2 r) ≤ 2 = omega (arith, length-part at 2 r (omega (arith, s .pre .1))) in
     let bs : Bytes r = λ i. omega (arith, c .before .shared-slice-known .given i) in
     (c .number-at .ensures, omega (arith, c .number-at .ensures, num-lt 2 (part at 2 r) (bytes-part at 2 r bs) n))
 
