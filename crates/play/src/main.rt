@@ -1,17 +1,20 @@
 // play RACK [NEXT]: plays the rack file named first over the events on standard input, and writes the rack left to NEXT where one is named.
 use libc::STDERR_FILENO;
 use libc::STDIN_FILENO;
-use libc::STDOUT_FILENO;
-use script::draws::set_draws;
 use script::lines::Step;
 use script::lines::Trouble;
 use script::lines::step_of;
 use script::replies::play_event;
 use script::replies::print_kind;
 use script::replies::print_trouble;
+use text::file::load;
 use text::lines::Kind;
+use text::lines::is_end;
 use text::lines::next;
 use text::lines::source_of;
+use text::print::number;
+use text::print::say;
+use text::print::say_number;
 
 // How many lines and events there were.
 struct Tally {
@@ -19,59 +22,50 @@ struct Tally {
     events: u64,
 }
 
-fn say(s: &[u8]) {
-    io::write_all(STDOUT_FILENO, s);
-}
-
 // What stands before what is wrong with a line.
-fn name_line(number: u64) {
-    say(b"line ");
-    text::print::number(STDOUT_FILENO, number);
+fn name_line(n: u64) {
+    say_number(b"line ", n);
     say(b": ");
 }
 
-fn wrong(number: u64, trouble: Trouble) {
-    name_line(number);
+fn wrong(n: u64, trouble: Trouble) {
+    name_line(n);
     print_trouble(trouble);
     say(b"\n");
 }
 
-fn too_long(number: u64) {
-    name_line(number);
+fn too_long(n: u64) {
+    name_line(n);
     say(b"too long\n");
 }
 
-// Plays an event, the one with this number.
-fn play(number: u64, event: u8, frame: &[u8], tags: &mut [u8], draws: &[u8]) {
-    text::print::number(STDOUT_FILENO, number);
-    print_kind(event);
-    play_event(tags, event, frame, draws);
+// Plays event n, of a kind.
+fn play(n: u64, kind: u8, frame: &[u8], tags: &mut [u8], draws: &[u8]) {
+    number(n);
+    print_kind(kind);
+    play_event(tags, kind, frame, draws);
     say(b"\n");
 }
 
-// Plays a line, the one with this number, of which so many events came before, and returns how many have come now.
+// Plays line n, before which so many events came, and returns how many have come now.
 fn play_line(
     line: &[u8],
-    number: u64,
+    n: u64,
     events: u64,
     tags: &mut [u8],
     draws: &mut [u8],
     bytes: &mut [u8],
 ) -> u64 {
-    let step = step_of(line, bytes);
+    let step = step_of(line, draws, bytes);
     match step {
         Step::Nothing => events,
-        Step::Play(event, n) => {
+        Step::Play(kind, len) => {
             let played = std::num::wrapping_add_u64(events, 1);
-            play(played, event, &bytes[0..n], tags, draws);
+            play(played, kind, &bytes[0..len], tags, draws);
             played
         }
-        Step::Draws(n) => {
-            set_draws(draws, &bytes[0..n]);
-            events
-        }
         Step::Wrong(trouble) => {
-            wrong(number, trouble);
+            wrong(n, trouble);
             events
         }
     }
@@ -86,33 +80,23 @@ fn turn(
     draws: &mut [u8],
     bytes: &mut [u8],
 ) -> Tally {
-    let number = std::num::wrapping_add_u64(tally.lines, 1);
+    let n = std::num::wrapping_add_u64(tally.lines, 1);
     match kind {
         Kind::Line => {
-            let events = play_line(line, number, tally.events, tags, draws, bytes);
+            let events = play_line(line, n, tally.events, tags, draws, bytes);
             Tally {
-                lines: number,
+                lines: n,
                 events: events,
             }
         }
         Kind::Long => {
-            too_long(number);
+            too_long(n);
             Tally {
-                lines: number,
+                lines: n,
                 events: tally.events,
             }
         }
-        Kind::More => tally,
         Kind::End => tally,
-    }
-}
-
-fn is_end(kind: Kind) -> bool {
-    match kind {
-        Kind::Line => false,
-        Kind::Long => false,
-        Kind::More => false,
-        Kind::End => true,
     }
 }
 
@@ -202,19 +186,11 @@ fn main() {
         usage();
         return;
     }
-    let mut path = io::buffer();
-    let n = os::arg(1, &mut path);
-    if os::errno() != 0 {
-        os::fail(b"RACK");
-        return;
-    }
-    let fd = os::open_read(&path[0..n]);
-    if fd < 0 {
-        os::fail(&path[0..n]);
-        return;
-    }
     let mut tags = [0u8; 65537];
-    let len = io::read_full(fd, &mut tags);
-    libc::close(fd);
+    let loaded = load(1, b"RACK", &mut tags);
+    if !loaded.fine {
+        return;
+    }
+    let len = loaded.len;
     run(&mut tags[0..len]);
 }

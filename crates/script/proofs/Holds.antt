@@ -10,13 +10,8 @@ use Rattle.script.specs.declared.lines.Step.the-variants as s
 pub held-any : (r : Step) (room : ℕ) → Held r 0 → Held r room
 held-any s.Nothing room h = h
 held-any (s.Play number n) room h = omega arith
-held-any (s.Draws n) room h = omega arith
 held-any (s.Wrong t) room h = h
 
 -- for callers: a frame is within the room
 pub held-play : (r : Step) (room number n : ℕ) → Held r room → r ≡ s.Play number n → n ≤ room
 held-play r room number n h e = rw e at h
-
--- and so are draws
-pub held-draws : (r : Step) (room n : ℕ) → Held r room → r ≡ s.Draws n → n ≤ room
-held-draws r room n h e = rw e at h

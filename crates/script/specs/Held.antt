@@ -6,5 +6,4 @@ use Rattle.script.specs.declared.lines.Step.the-variants as s
 abbrev pub Held : Step → ℕ → Type 0
 Held s.Nothing room = Unit
 Held (s.Play number n) room = n ≤ room
-Held (s.Draws n) room = n ≤ room
 Held (s.Wrong t) room = Unit

@@ -1,4 +1,5 @@
 // What an event line asks.
+use crate::draws::set_draws;
 use frame::check_sum::seal;
 use text::hex::Run;
 use text::hex::read_bytes;
@@ -23,12 +24,10 @@ pub enum Trouble {
 }
 
 pub enum Step {
-    // A blank line or a comment.
+    // A blank line, a comment or draws, which are set.
     Nothing,
     // An event: its number, and how many bytes its frame has.
     Play(u8, usize),
-    // So many draws for what follows.
-    Draws(usize),
     Wrong(Trouble),
 }
 
@@ -81,21 +80,25 @@ fn framed(line: &[u8], rest: usize, number: u8, has_sum: bool, bytes: &mut [u8])
     }
 }
 
-fn draws(line: &[u8], rest: usize, bytes: &mut [u8]) -> Step
+// Draws for what follows.
+fn drawn(line: &[u8], rest: usize, draws: &mut [u8], bytes: &mut [u8]) -> Step
     requires { ⌜ rest ≤ length (now line) ⌝ }
-    ensures { λ r. ⌜ Held r (length (now (bytes .exit))) ⌝ }
+    ensures { λ r. ⌜ Held r 0 ⌝ }
 {
     let run = read_bytes(&line[rest..], bytes);
     match run {
-        Run::Bytes(n) => Step::Draws(n),
+        Run::Bytes(n) => {
+            set_draws(draws, &bytes[0..n]);
+            Step::Nothing
+        }
         Run::Bad(i) => Step::Wrong(Trouble::Bad(column(rest, i))),
         Run::Odd(i) => Step::Wrong(Trouble::Odd(column(rest, i))),
         Run::Full => Step::Wrong(Trouble::Full),
     }
 }
 
-// What a line asks; the bytes behind its word go to the front of a buffer.
-pub fn step_of(line: &[u8], bytes: &mut [u8]) -> Step
+// What a line asks; the bytes behind its word go to the front of a buffer. A line of draws sets them.
+pub fn step_of(line: &[u8], draws: &mut [u8], bytes: &mut [u8]) -> Step
     ensures { λ r. ⌜ Held r (length (now (bytes .exit))) ⌝ }
 {
     let said = first_word(line);
@@ -111,7 +114,7 @@ pub fn step_of(line: &[u8], bytes: &mut [u8]) -> Step
         Word::LabelSeal => framed(line, rest, 3, false, bytes),
         Word::Chip => framed(line, rest, 5, true, bytes),
         Word::ChipSeal => framed(line, rest, 5, false, bytes),
-        Word::Draws => draws(line, rest, bytes),
+        Word::Draws => drawn(line, rest, draws, bytes),
         Word::Unknown => Step::Wrong(Trouble::Word),
     }
 }

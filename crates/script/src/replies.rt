@@ -1,13 +1,12 @@
 // An event played, and its reply as text.
 use crate::draws::draws_for;
 use crate::lines::Trouble;
-use libc::STDOUT_FILENO;
 use rack::event::Report;
 use rack::event::event;
-
-fn say(s: &[u8]) {
-    io::write_all(STDOUT_FILENO, s);
-}
+use text::hex::print_bytes;
+use text::hex::print_uid;
+use text::print::say;
+use text::print::say_number;
 
 // An event's kind, between its number and its reply.
 pub fn print_kind(number: u8) {
@@ -24,8 +23,7 @@ pub fn print_kind(number: u8) {
 // Silence, the answer's bytes, a collision or a refusal.
 fn print_reply(report: Report, answer: &[u8]) {
     if report.number != 0 {
-        say(b"refused ");
-        text::print::number(STDOUT_FILENO, report.number as u64);
+        say_number(b"refused ", report.number as u64);
         return;
     }
     if report.answered == 0 {
@@ -35,12 +33,11 @@ fn print_reply(report: Report, answer: &[u8]) {
     if report.answered == 1 {
         let n = report.length;
         if n <= answer.len() {
-            text::hex::print_bytes(STDOUT_FILENO, &answer[0..n]);
+            print_bytes(&answer[0..n]);
         }
         return;
     }
-    say(b"collision of ");
-    text::print::number(STDOUT_FILENO, report.answered as u64);
+    say_number(b"collision of ", report.answered as u64);
 }
 
 // Plays an event on a rack and writes its reply.
@@ -53,8 +50,7 @@ pub fn play_event(tags: &mut [u8], number: u8, frame: &[u8], draws: &[u8]) {
 
 fn in_column(what: &[u8], column: u64) {
     say(what);
-    say(b" in column ");
-    text::print::number(STDOUT_FILENO, column);
+    say_number(b" in column ", column);
 }
 
 pub fn print_trouble(trouble: Trouble) {
@@ -75,7 +71,7 @@ pub fn print_uids(list: &[u8], n: usize, before: &[u8], after: &[u8]) {
             return;
         }
         say(before);
-        text::hex::print_uid(STDOUT_FILENO, frame::uid::uid_at(list, 8 * i));
+        print_uid(frame::uid::uid_at(list, 8 * i));
         say(after);
         i += 1;
     }

@@ -1,10 +1,10 @@
 // A chip's line: UID, state, Chip_ID, the one it has by the fixed-ID option, the counters in blocks 5 and 6, reload, what is locked.
 use crate::words::eight;
 use crate::words::four;
-use crate::words::hex;
 use crate::words::number;
-use crate::words::say;
 use frame::number::byte_at;
+use text::hex::say_byte;
+use text::print::say;
 
 fn state(s: u8) {
     match s {
@@ -40,9 +40,9 @@ pub fn show(body: &[u8]) {
     say(b" chip ");
     eight(body, 68);
     state(byte_at(body, 76));
-    hex(b", Chip_ID ", byte_at(body, 77));
+    say_byte(b", Chip_ID ", byte_at(body, 77));
     if byte_at(body, 79) == 1 {
-        hex(b", fixed ID ", byte_at(body, 64));
+        say_byte(b", fixed ID ", byte_at(body, 64));
     }
     four(b", counter 5 at ", body, 20);
     four(b", counter 6 at ", body, 24);

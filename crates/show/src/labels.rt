@@ -1,10 +1,10 @@
 // A label's line: UID, state, AFI, DSFID, blocks, IC reference, what is locked, a running slot and its mask.
 use crate::words::count;
 use crate::words::eight;
-use crate::words::hex;
 use crate::words::number;
-use crate::words::say;
 use frame::number::byte_at;
+use text::hex::say_byte;
+use text::print::say;
 ghost use Prim.Native.Nat.{_≤_};
 
 fn state(s: u8) {
@@ -71,13 +71,13 @@ pub fn show(body: &[u8]) {
     say(b" label ");
     eight(body, 0);
     state(byte_at(body, 14));
-    hex(b", AFI ", byte_at(body, 9));
-    hex(b", DSFID ", byte_at(body, 8));
+    say_byte(b", AFI ", byte_at(body, 9));
+    say_byte(b", DSFID ", byte_at(body, 8));
     say(b", ");
     count(blocks_of(body), b" block");
     say(b" of ");
     count(byte_at(body, 12) as usize + 1, b" byte");
-    hex(b", IC ", byte_at(body, 13));
+    say_byte(b", IC ", byte_at(body, 13));
     locks(body);
     slot(body);
 }

@@ -4,9 +4,10 @@ mod labels;
 mod words;
 
 use crate::words::number;
-use crate::words::say;
 use frame::number::byte_at;
 use libc::STDERR_FILENO;
+use text::file::load;
+use text::print::say;
 
 // Tag i.
 fn show_tag(i: usize, kind: u8, body: &[u8]) {
@@ -57,19 +58,11 @@ fn main() {
         io::write_all(STDERR_FILENO, b"usage: show RACK\n");
         return;
     }
-    let mut path = io::buffer();
-    let n = os::arg(1, &mut path);
-    if os::errno() != 0 {
-        os::fail(b"RACK");
-        return;
-    }
-    let fd = os::open_read(&path[0..n]);
-    if fd < 0 {
-        os::fail(&path[0..n]);
-        return;
-    }
     let mut tags = [0u8; 65537];
-    let len = io::read_full(fd, &mut tags);
-    libc::close(fd);
+    let loaded = load(1, b"RACK", &mut tags);
+    if !loaded.fine {
+        return;
+    }
+    let len = loaded.len;
     show(&tags[0..len]);
 }

@@ -1,13 +1,12 @@
 // Small pieces of a tag's line. A byte is written in hex, a number in decimal.
 use frame::number::byte_at;
-use libc::STDOUT_FILENO;
-
-pub fn say(s: &[u8]) {
-    io::write_all(STDOUT_FILENO, s);
-}
+use text::hex::print_byte;
+use text::hex::print_uid;
+use text::hex::say_byte;
+use text::print::say;
 
 pub fn number(x: usize) {
-    text::print::number(STDOUT_FILENO, x as u64);
+    text::print::number(x as u64);
 }
 
 // A count of things, whose name takes an s unless there is one.
@@ -19,12 +18,6 @@ pub fn count(x: usize, name: &[u8]) {
     }
 }
 
-// A name and a byte.
-pub fn hex(name: &[u8], x: u8) {
-    say(name);
-    text::hex::print_byte(STDOUT_FILENO, x);
-}
-
 // The eight bytes at a place, high byte first.
 pub fn eight(body: &[u8], at: usize) {
     if body.len() < 8 {
@@ -33,7 +26,7 @@ pub fn eight(body: &[u8], at: usize) {
     if body.len() - 8 < at {
         return;
     }
-    text::hex::print_uid(STDOUT_FILENO, frame::uid::uid_at(body, at));
+    print_uid(frame::uid::uid_at(body, at));
 }
 
 // A name and the number that the four bytes at a place are, and its bytes, high byte first.
@@ -47,9 +40,9 @@ pub fn four(name: &[u8], body: &[u8], at: usize) {
     let d = byte_at(body, at + 3);
     say(name);
     number(a as usize + 256 * (b as usize + 256 * (c as usize + 256 * d as usize)));
-    hex(b" (", d);
-    hex(b"", c);
-    hex(b"", b);
-    hex(b"", a);
+    say_byte(b" (", d);
+    print_byte(c);
+    print_byte(b);
+    print_byte(a);
     say(b")");
 }

@@ -1,9 +1,10 @@
-// Bytes as hex digits, and back.
+// Bytes as hex digits, written to standard output, and back.
 ghost use mathlib.Core.Path.{_≡_};
 ghost use Prim.Native.Nat.{_+_, _<_, _≤_};
 ghost use lib.ListN.{length};
 ghost use Rattle.text.specs.Hex.{digitOf, valueOf};
 ghost use Rattle.text.specs.Runs.{Counted, Pieced};
+use crate::print::say;
 use crate::words::is_blank;
 use crate::words::skip_blanks;
 
@@ -75,34 +76,40 @@ fn low(b: u8) -> u8 {
 }
 
 // Two capitals.
-pub fn print_byte(fd: i32, b: u8) {
+pub fn print_byte(b: u8) {
     let text = [high(b), low(b)];
-    io::write_all(fd, &text);
+    say(&text);
+}
+
+// A text and a byte behind it.
+pub fn say_byte(s: &[u8], b: u8) {
+    say(s);
+    print_byte(b);
 }
 
 // Two capitals a byte, a space between bytes.
-pub fn print_bytes(fd: i32, s: &[u8]) {
+pub fn print_bytes(s: &[u8]) {
     if s.len() == 0 {
         return;
     }
-    print_byte(fd, s[0]);
+    print_byte(s[0]);
     let mut at = 1;
     while at < s.len() {
         if s.len() - at <= 32 {
-            print_part(fd, &s[at..]);
+            print_part(&s[at..]);
             return;
         }
         let end = at + 32;
-        print_part(fd, &s[at..end]);
+        print_part(&s[at..end]);
         at = end;
     }
 }
 
 // At most 32 bytes, a space before each.
-fn print_part(fd: i32, s: &[u8]) {
+fn print_part(s: &[u8]) {
     let mut text = [0u8; 96];
     let n = lay(s, &mut text);
-    io::write_all(fd, &text[0..n]);
+    say(&text[0..n]);
 }
 
 // The text of s's bytes, a space before each, as far as there is room.
@@ -131,26 +138,15 @@ fn put(text: &mut [u8], n: usize, b: u8)
 }
 
 // A UID, given low byte first: high byte first.
-pub fn print_uid(fd: i32, u: [u8; 8]) {
-    let text = [
-        high(u[7]),
-        low(u[7]),
-        high(u[6]),
-        low(u[6]),
-        high(u[5]),
-        low(u[5]),
-        high(u[4]),
-        low(u[4]),
-        high(u[3]),
-        low(u[3]),
-        high(u[2]),
-        low(u[2]),
-        high(u[1]),
-        low(u[1]),
-        high(u[0]),
-        low(u[0]),
-    ];
-    io::write_all(fd, &text);
+pub fn print_uid(u: [u8; 8]) {
+    print_byte(u[7]);
+    print_byte(u[6]);
+    print_byte(u[5]);
+    print_byte(u[4]);
+    print_byte(u[3]);
+    print_byte(u[2]);
+    print_byte(u[1]);
+    print_byte(u[0]);
 }
 
 // Reads pairs of hex digits from s to the start of out. Blanks may stand around pairs, and a `#` behind a blank ends the run.

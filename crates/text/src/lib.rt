@@ -1,4 +1,5 @@
-// Text in and out for the programs: hex, lines from a descriptor, words of an event line, numbers.
+// Text in and out for the programs: files by argument, hex, lines from a descriptor, words of an event line, standard output.
+pub mod file;
 pub mod hex;
 pub mod lines;
 pub mod print;

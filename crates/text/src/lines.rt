@@ -8,20 +8,18 @@ ghost use Rattle.io.specs.Counts.{Counts};
 ghost use Rattle.text.specs.Lines.{Inside};
 ghost use Rattle.text.specs.Words.{Behind};
 
-// Where the reading stands: buf[start..end] was read and not handed out; `done`: the input has ended; `skip`: within a line that is too long.
+// Where the reading stands: buf[start..end] was read and not handed out; `done`: the input has ended.
 pub struct Source {
     pub fd: i32,
     pub start: usize,
     pub end: usize,
     pub done: bool,
-    pub skip: bool,
 }
 
-// A line; a line that was too long, now passed; not there yet (a line is too long, and more of it is to be read: call again); the end.
+// A line; a line that was too long, now passed; the end.
 pub enum Kind {
     Line,
     Long,
-    More,
     End,
 }
 
@@ -33,13 +31,33 @@ pub struct Got {
     pub source: Source,
 }
 
+pub fn is_end(kind: Kind) -> bool {
+    match kind {
+        Kind::Line => false,
+        Kind::Long => false,
+        Kind::End => true,
+    }
+}
+
+fn holding(fd: i32, start: usize, end: usize) -> Source {
+    Source {
+        fd: fd,
+        start: start,
+        end: end,
+        done: false,
+    }
+}
+
 pub fn source_of(fd: i32) -> Source {
+    holding(fd, 0, 0)
+}
+
+fn ended(fd: i32) -> Source {
     Source {
         fd: fd,
         start: 0,
         end: 0,
-        done: false,
-        skip: false,
+        done: true,
     }
 }
 
@@ -55,25 +73,15 @@ fn other(kind: Kind, source: Source) -> Got
     }
 }
 
-fn ended(fd: i32) -> Source {
-    Source {
-        fd: fd,
-        start: 0,
-        end: 0,
-        done: true,
-        skip: false,
-    }
-}
-
-// The next line of a source that was used with this buffer only. It reads until a line is whole, the buffer is full or the input has ended; a read
-// that fails ends the input.
+// The next line of a source that was used with this buffer only, which has room for a byte. It reads until a line is whole or the input has ended; a
+// read that fails ends the input.
 pub fn next(s: Source, buf: &mut [u8]) -> Got
     ensures { λ r. ⌜ Inside r (length (now (buf .exit))) ⌝ }
 {
     let start = s.start;
     let end = s.end;
-    if buf.len() == 0 {
-        return other(Kind::End, ended(s.fd));
+    if s.done {
+        return other(Kind::End, s);
     }
     if buf.len() < end {
         return other(Kind::End, ended(s.fd));
@@ -81,22 +89,9 @@ pub fn next(s: Source, buf: &mut [u8]) -> Got
     if end < start {
         return other(Kind::End, ended(s.fd));
     }
-    if s.skip {
-        return pass(s.fd, buf);
-    }
     let at = newline(buf, start, end);
     if at < end {
-        let rest = Source {
-            fd: s.fd,
-            start: at + 1,
-            end: end,
-            done: s.done,
-            skip: false,
-        };
-        return line(buf, start, at, rest);
-    }
-    if s.done {
-        return last(s.fd, start, end);
+        return line(buf, start, at, holding(s.fd, at + 1, end));
     }
     let n = to_front(buf, start, end);
     fill(s.fd, n, buf)
@@ -132,17 +127,16 @@ fn line(buf: &[u8], from: usize, to: usize, source: Source) -> Got
     }
 }
 
-// The last line, buf[from..to], which no newline ends, unless nothing is left.
-fn last(fd: i32, from: usize, to: usize) -> Got
-    requires { ⌜ from ≤ to ⌝ }
+// The last line, buf[0..to], which no newline ends, unless nothing is left.
+fn last(fd: i32, to: usize) -> Got
     ensures { λ r. ⌜ Inside r to ⌝ }
 {
-    if from == to {
+    if to == 0 {
         return other(Kind::End, ended(fd));
     }
     Got {
         kind: Kind::Line,
-        from: from,
+        from: 0,
         to: to,
         source: ended(fd),
     }
@@ -199,57 +193,33 @@ fn fill(fd: i32, n: usize, buf: &mut [u8]) -> Got
     while end < buf.len() {
         let more = read_part(fd, &mut buf[end..]);
         if more == 0 {
-            return last(fd, 0, end);
+            return last(fd, end);
         }
         let to = end + more;
         let at = newline(buf, end, to);
         if at < to {
-            let rest = Source {
-                fd: fd,
-                start: at + 1,
-                end: to,
-                done: false,
-                skip: false,
-            };
-            return line(buf, 0, at, rest);
+            return line(buf, 0, at, holding(fd, at + 1, to));
         }
         end = to;
     }
-    let rest = Source {
-        fd: fd,
-        start: 0,
-        end: 0,
-        done: false,
-        skip: true,
-    };
-    other(Kind::More, rest)
+    pass(fd, buf)
 }
 
-// Reads on in a line that is too long.
+// Passes over the rest of a line that is too long: at most 2^62 reads, which no input outlasts.
 fn pass(fd: i32, buf: &mut [u8]) -> Got
     ensures { λ r. ⌜ Inside r (length (now (buf .exit))) ⌝ }
 {
-    let n = read_part(fd, buf);
-    if n == 0 {
-        return other(Kind::Long, ended(fd));
+    let mut left: u64 = 4611686018427387904;
+    while 0 < left {
+        left -= 1;
+        let n = read_part(fd, buf);
+        if n == 0 {
+            return other(Kind::Long, ended(fd));
+        }
+        let at = newline(buf, 0, n);
+        if at < n {
+            return other(Kind::Long, holding(fd, at + 1, n));
+        }
     }
-    let at = newline(buf, 0, n);
-    if at == n {
-        let rest = Source {
-            fd: fd,
-            start: 0,
-            end: 0,
-            done: false,
-            skip: true,
-        };
-        return other(Kind::More, rest);
-    }
-    let rest = Source {
-        fd: fd,
-        start: at + 1,
-        end: n,
-        done: false,
-        skip: false,
-    };
-    other(Kind::Long, rest)
+    other(Kind::Long, ended(fd))
 }

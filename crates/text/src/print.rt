@@ -1,10 +1,21 @@
-// Numbers and ends of lines.
+// Standard output: text, numbers, ends of lines.
+use libc::STDOUT_FILENO;
 
-pub fn line_end(fd: i32) {
-    io::write_all(fd, b"\n");
+pub fn say(s: &[u8]) {
+    io::write_all(STDOUT_FILENO, s);
+}
+
+pub fn line_end() {
+    say(b"\n");
 }
 
 // n in decimal.
-pub fn number(fd: i32, n: u64) {
-    io::print_decimal(fd, n);
+pub fn number(n: u64) {
+    io::print_decimal(STDOUT_FILENO, n);
+}
+
+// A text and a number behind it.
+pub fn say_number(s: &[u8], n: u64) {
+    say(s);
+    number(n);
 }

@@ -1,16 +1,13 @@
 // What an event changed in a rack, byte by byte: the tag, the place in its body, the old value and the new one.
 use frame::number::byte_at;
-use libc::STDOUT_FILENO;
+use text::hex::say_byte;
+use text::print::say_number;
 
 fn print_change(tag: usize, place: usize, old: u8, new: u8) {
-    io::write_all(STDOUT_FILENO, b" ");
-    text::print::number(STDOUT_FILENO, tag as u64);
-    io::write_all(STDOUT_FILENO, b".");
-    text::print::number(STDOUT_FILENO, place as u64);
-    io::write_all(STDOUT_FILENO, b":");
-    text::hex::print_byte(STDOUT_FILENO, old);
-    io::write_all(STDOUT_FILENO, b">");
-    text::hex::print_byte(STDOUT_FILENO, new);
+    say_number(b" ", tag as u64);
+    say_number(b".", place as u64);
+    say_byte(b":", old);
+    say_byte(b">", new);
 }
 
 // The changes of a tag whose body starts at a place.

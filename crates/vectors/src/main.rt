@@ -1,17 +1,11 @@
-// Published vectors and worked values, run and written out: the file stdout has what they must be, from the documents.
-mod cases;
+// Published vectors and worked cases, from standard input, run and written out: the file stdout has what they must be, from the documents.
 mod changes;
-mod check_sums;
-mod endings;
+mod lines;
 mod meanings;
-mod refusals;
-mod trips;
-mod walks;
+mod racks;
+mod readers;
+mod sums;
 
 fn main() {
-    check_sums::run();
-    endings::run();
-    refusals::run();
-    trips::run();
-    cases::run();
+    lines::run();
 }

@@ -2,8 +2,9 @@
 use inventory::walk::walk;
 use label::request::Family;
 use libc::STDIN_FILENO;
-use libc::STDOUT_FILENO;
 use script::replies::print_uids;
+use text::print::line_end;
+use text::print::say_number;
 
 fn main() {
     let mut tags = [0u8; 65537];
@@ -11,13 +12,11 @@ fn main() {
     let mut list = [0u8; 512];
     let walked = walk(&mut tags[0..len], Family::Any, &mut list);
     if walked.number != 0 {
-        io::write_all(STDOUT_FILENO, b"refused ");
-        text::print::number(STDOUT_FILENO, walked.number as u64);
-        text::print::line_end(STDOUT_FILENO);
+        say_number(b"refused ", walked.number as u64);
+        line_end();
         return;
     }
-    io::write_all(STDOUT_FILENO, b"rounds ");
-    text::print::number(STDOUT_FILENO, walked.rounds as u64);
-    text::print::line_end(STDOUT_FILENO);
+    say_number(b"rounds ", walked.rounds as u64);
+    line_end();
     print_uids(&list, walked.labels, b"", b"\n");
 }

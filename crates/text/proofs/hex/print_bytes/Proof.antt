@@ -6,10 +6,10 @@ use Rattle.text.proofs.hex.print_bytes.Statement.{statement}
 use Rattle.text.proofs.hex.print_bytes.Tie as tie
 
 abbrev Inv-loop : tie.InvT-loop
-Inv-loop fd s at₀ at = Unit
+Inv-loop s at₀ at = Unit
 
 abbrev μ-loop : tie.MeasureT-loop
-μ-loop fd s at₀ at = length s - at
+μ-loop s at₀ at = length s - at
 
 returns : tie.Need-returns Inv-loop μ-loop
 returns c = search needs

@@ -42,8 +42,11 @@ add-to c = search needs
 newline-requires : tie.Need-newline-requires Inv-loop μ-loop
 newline-requires c κs = search needs
 
-add-t17 : tie.Need-add-t17 Inv-loop μ-loop
-add-t17 c = search needs
+add-holding : tie.Need-add-holding Inv-loop μ-loop
+add-holding c = search needs
+
+holding-requires : tie.Need-holding-requires Inv-loop μ-loop
+holding-requires c κs = search needs
 
 line-requires : tie.Need-line-requires Inv-loop μ-loop
 line-requires c κs = search needs
@@ -60,8 +63,8 @@ loop-less c = search needs
 loop-again : tie.Need-loop-again Inv-loop μ-loop
 loop-again c = search needs
 
-other-requires : tie.Need-other-requires Inv-loop μ-loop
-other-requires c κs = search needs
+pass-requires : tie.Need-pass-requires Inv-loop μ-loop
+pass-requires c κs = search needs
 
 same-length-3 : tie.Need-same-length-3 Inv-loop μ-loop
 same-length-3 c = search needs
@@ -85,12 +88,13 @@ fill-spec =
     returns
     add-to
     newline-requires
-    add-t17
+    add-holding
+    holding-requires
     line-requires
     same-length-2
     returns-2
     loop-less
     loop-again
-    other-requires
+    pass-requires
     same-length-3
     returns-3)

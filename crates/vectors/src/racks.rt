@@ -1,0 +1,100 @@
+// Events and walks as calls: their numbers, and whether a lent buffer was written to.
+use frame::number::byte_at;
+use inventory::walk::Walked;
+use inventory::walk::walk;
+use label::request::Family;
+use rack::event::Report;
+use rack::event::event;
+use script::replies::print_uids;
+use text::print::say;
+use text::print::say_number;
+
+// Whether a buffer still has the byte EE everywhere.
+fn stays(out: &[u8]) {
+    let mut i = 0;
+    while i < out.len() {
+        if out[i] != 0xEE {
+            say(b", buffer changed");
+            return;
+        }
+        i += 1;
+    }
+}
+
+fn print_report(r: Report) {
+    say_number(b"number ", r.number as u64);
+    say_number(b", answered ", r.answered as u64);
+    say_number(b", length ", r.length as u64);
+}
+
+pub fn play(number: u8, frame: &[u8], tags: &mut [u8], draws: &[u8], answer: &mut [u8]) -> Report {
+    event(tags, number, frame, draws, answer)
+}
+
+fn play_into(number: u8, tags: &mut [u8], draws: &[u8], answer: &mut [u8]) {
+    print_report(play(number, b"", tags, draws, answer));
+    stays(answer);
+}
+
+pub fn try_event(bytes: &[u8], tags: &mut [u8]) {
+    let n = byte_at(bytes, 1) as usize;
+    let room = byte_at(bytes, 2) as usize;
+    if 8 < n {
+        return;
+    }
+    if 80 < room {
+        return;
+    }
+    let draws = [0u8; 8];
+    let mut answer = [0xEEu8; 80];
+    play_into(byte_at(bytes, 0), tags, &draws[0..n], &mut answer[0..room]);
+}
+
+fn print_walked(w: Walked) {
+    say_number(b"number ", w.number as u64);
+    say_number(b", labels ", w.labels as u64);
+    say_number(b", rounds ", w.rounds as u64);
+}
+
+fn walked(tags: &mut [u8], family: Family, list: &mut [u8]) -> Walked {
+    walk(tags, family, list)
+}
+
+fn walk_into(tags: &mut [u8], list: &mut [u8]) {
+    print_walked(walked(tags, Family::Any, list));
+    stays(list);
+}
+
+pub fn into(bytes: &[u8], tags: &mut [u8]) {
+    let room = byte_at(bytes, 0) as usize;
+    if 32 < room {
+        return;
+    }
+    let mut list = [0xEEu8; 32];
+    walk_into(tags, &mut list[0..room]);
+}
+
+// The family that a byte names, or any where there is none.
+fn family_of(bytes: &[u8]) -> Family {
+    if bytes.len() == 0 {
+        return Family::Any;
+    }
+    Family::Only(bytes[0])
+}
+
+// The rounds and the labels of a walk, or its refusal.
+fn print_list(w: Walked, list: &[u8]) {
+    if w.number != 0 {
+        say_number(b"refused ", w.number as u64);
+        return;
+    }
+    say_number(b"rounds ", w.rounds as u64);
+    say_number(b" labels ", w.labels as u64);
+    print_uids(list, w.labels, b" ", b"");
+}
+
+pub fn walk_all(bytes: &[u8], tags: &mut [u8]) {
+    let mut list = [0u8; 512];
+    let w = walked(tags, family_of(bytes), &mut list);
+    print_list(w, &list);
+}
