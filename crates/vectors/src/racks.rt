@@ -9,7 +9,7 @@ use script::replies::print_uids;
 use text::print::say;
 use text::print::say_number;
 
-// Whether a buffer still has the byte EE everywhere.
+// Says so where a buffer has not the byte EE everywhere.
 fn stays(out: &[u8]) {
     let mut i = 0;
     while i < out.len() {
@@ -27,6 +27,7 @@ fn print_report(r: Report) {
     say_number(b", length ", r.length as u64);
 }
 
+// An event, with nothing promised of it: its contract would weigh on the check of every caller.
 pub fn play(number: u8, frame: &[u8], tags: &mut [u8], draws: &[u8], answer: &mut [u8]) -> Report {
     event(tags, number, frame, draws, answer)
 }
@@ -56,6 +57,7 @@ fn print_walked(w: Walked) {
     say_number(b", rounds ", w.rounds as u64);
 }
 
+// A walk, with nothing promised of it, for the same reason.
 fn walked(tags: &mut [u8], family: Family, list: &mut [u8]) -> Walked {
     walk(tags, family, list)
 }

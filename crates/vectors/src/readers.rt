@@ -1,10 +1,9 @@
 // The reader's side: requests written and played on the rack, answers read.
 use crate::meanings::print_reading;
 use crate::racks::play;
-use frame::check_sum::seal;
+use crate::sums::seal_into;
 use frame::number::byte_at;
 use frame::number::number_at;
-use frame::put::put_bytes;
 use reader::answer::read_answer;
 use reader::command::Command;
 use reader::request::Written;
@@ -48,7 +47,7 @@ fn command(bytes: &[u8]) -> Command {
     command_of(f)
 }
 
-// How many bytes a command has: an Inventory has more than the others.
+// How many bytes a command has: an Inventory, kind 1 and code 0001, has more than the others.
 fn length_of(bytes: &[u8]) -> usize {
     if byte_at(bytes, 0) != 1 {
         return 6;
@@ -136,22 +135,12 @@ pub fn narrow(bytes: &[u8]) {
     number(w.number as u64);
 }
 
-// An answer that was sent with one byte of data, in a frame of its own.
-fn sealed(bytes: &[u8], content: &[u8]) {
-    let n = content.len();
-    if 62 < n {
-        return;
-    }
-    let mut frame = [0u8; 64];
-    put_bytes(&mut frame, 0, content, n);
-    seal(&mut frame, n);
-    let end = n + 2;
-    read(bytes, 1, &frame[0..end]);
-}
-
+// An answer to a command that was sent with one byte of data.
 pub fn answer(bytes: &[u8]) {
     let at = behind(bytes);
-    sealed(bytes, &bytes[at..]);
+    let mut frame = [0u8; 64];
+    let n = seal_into(&bytes[at..], &mut frame);
+    read(bytes, 1, &frame[0..n]);
 }
 
 pub fn frame(bytes: &[u8]) {
