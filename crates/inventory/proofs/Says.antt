@@ -1,12 +1,12 @@
 -- The two calls of a walk on any body, in a round or not: a label's only answer is its UID's, and a chip ignores them. Idea: an answer that is
 -- Silent or Found goes through each test of the step. Assumes nothing.
 use mathlib.Core.Path.{_≡_, refl}
-use mathlib.Core.Bool.{Bool, true, false, _&&_}
+use mathlib.Core.Bool.{true, _&&_}
 use mathlib.Core.List.{List, []}
 use Prim.Native.Nat.{ℕ, _+_}
 use native.Mathlib.Omega.{arith}
 use lib.Dec.{eqb, ltb}
-use Rattle.frame.specs.Choose.{if_then_else_}
+use Rattle.frame.proofs.Bools.{if-both}
 use Rattle.frame.specs.Ending.{endsInSlot}
 use Rattle.label.specs.Request.{bare}
 use Rattle.label.specs.Step.{told, silent, withSlot, ended, ready, passes, awake, turn, inventory, endOfFrame, called, act}
@@ -34,29 +34,24 @@ silent-plain l z = absurd (let x : _≡_ {A = ℕ} 0 1 = cc in omega arith)
 found-plain : (l : Label) → Plain (told Found l)
 found-plain l z = refl
 
-if-plain : (q : Bool) (s t : Stepped) → Plain s → Plain t → Plain (if q then s else t)
-if-plain true s t p r = p
-if-plain false s t p r = r
-
 turn-plain : (l : Label) → Plain (turn l)
 unfolding turn
-turn-plain l = if-plain (endsInSlot (l .uid) (l .mask) (l .bits) (l .slot)) (told Found l) (silent l) (found-plain l) (silent-plain l)
+turn-plain l = if-both Plain (endsInSlot (l .uid) (l .mask) (l .bits) (l .slot)) (found-plain l) (silent-plain l)
 
 end-plain : (l : Label) → Plain (endOfFrame l)
 unfolding endOfFrame
 end-plain l =
     let on = withSlot (l .slot + 1) (l .bits) (l .mask) l in
-    if-plain (ltb (l .slot) 15) (turn on) (if eqb (l .slot) 15 then silent (ended l) else silent l) (turn-plain on)
-    (if-plain (eqb (l .slot) 15) (silent (ended l)) (silent l) (silent-plain (ended l)) (silent-plain l))
+    if-both Plain (ltb (l .slot) 15) (turn-plain on) (if-both Plain (eqb (l .slot) 15) (silent-plain (ended l)) (silent-plain l))
 
 inventory-plain : (family : Family) (m e : ℕ) (l : Label) → Plain (inventory family true m e l)
 unfolding inventory
 inventory-plain family m e l =
     let on = withSlot 0 m e (ended l) in
-    if-plain (ready l && passes family (l .afi)) (turn on) (silent (ended l)) (turn-plain on) (silent-plain (ended l))
+    if-both Plain (ready l && passes family (l .afi)) (turn-plain on) (silent-plain (ended l))
 
 awake-plain : (s : Stepped) (l : Label) → Plain s → Plain (awake s l)
-awake-plain s l p = if-plain (eqb (l .state) 0) (silent l) s (silent-plain l) p
+awake-plain s l p = if-both Plain (eqb (l .state) 0) (silent-plain l) p
 
 call-plain : (call : Call) → Sent call → (n : ℕ) (b : List ℕ) → Plain (stepped (bare call) n b)
 unfolding Sent stepped act called

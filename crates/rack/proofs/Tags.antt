@@ -8,11 +8,9 @@ use native.Mathlib.Omega.{arith}
 use borrow.Author.Tests.{eqb-true, leb-true}
 use lib.Dec.{eqb, ltb, leb}
 use lib.ListN.{length, getD}
-use Rattle.frame.specs.Choose.{if_then_else_}
 use Rattle.frame.specs.Number.{Bytes}
-use Rattle.frame.specs.Judge.{fine, bad}
 use Rattle.frame.specs.declared.verdict.Verdict.{Verdict}
-use Rattle.frame.proofs.Bools.{and-both}
+use Rattle.frame.proofs.Bools.{and-both, if-both}
 use Rattle.label.specs.declared.step.Answer.{Answer}
 use Rattle.label.specs.declared.step.Answer.the-variants as a
 use Rattle.label.specs.Request as labels
@@ -105,19 +103,16 @@ pub label-sized : (k : ℕ) (b : List ℕ) → eqb k 2 ≡ false → TagFine k b
 label-sized k b t f = label-fine.sized-of b (label-kept k b t f)
 
 -- the rules' verdict by the kind, and its place in the body
-if-place : (t : Bool) (v w : Verdict) (n : ℕ) → v .place ≤ n → w .place ≤ n → (if t then v else w) .place ≤ n
-if-place true v w n p q = p
-if-place false v w n p q = q
-
 chip-place : (b : List ℕ) → chipRules b .place ≤ 8480
 unfolding chipRules
 chip-place b =
-    if-place (ltb 5 (getD b 76 0)) (bad 13 76) _ 8480 (omega arith)
-    (if-place (eqb (getD b 76 0) 0 && not (eqb (getD b 77 0) 0)) (bad 13 77) _ 8480 (omega arith)
-    (if-place (ltb 1 (getD b 78 0) || (eqb (getD b 78 0) 1 && not (eqb (getD b 76 0) 3))) (bad 13 78) _ 8480 (omega arith)
-    (if-place
+    let P : Verdict → Type 0 = λ v. v .place ≤ 8480 in
+    if-both P (ltb 5 (getD b 76 0)) (omega arith)
+    (if-both P (eqb (getD b 76 0) 0 && not (eqb (getD b 77 0) 0)) (omega arith)
+    (if-both P (ltb 1 (getD b 78 0) || (eqb (getD b 78 0) 1 && not (eqb (getD b 76 0) 3))) (omega arith)
+    (if-both P
     (ltb 1 (getD b 79 0) || (eqb (getD b 79 0) 1 && (not (eqb (getD b 76 0) 0) && not (eqb (getD b 77 0) (getD b 64 0)))))
-    (bad 13 79) fine 8480 (omega arith) (omega arith))))
+    (omega arith) (omega arith))))
 
 pub judged-chip : (k : ℕ) (b : List ℕ) (v : Verdict) → eqb k 2 ≡ true → v ≡ chipRules b → (v ≡ bodyRules k b) × (v .place ≤ 8480)
 judged-chip k b v t e = (e ∙ sym (rules-chip k t b), rw e (chip-place b))
