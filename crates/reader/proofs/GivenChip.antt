@@ -15,6 +15,7 @@ use Rattle.frame.specs.CheckSum.{content, framed}
 use Rattle.frame.specs.Judge.{fine}
 use Rattle.frame.proofs.Bools.{and-both, if-true, if-false}
 use Rattle.frame.proofs.Lists.{window, window-all}
+use Rattle.frame.proofs.Stores.{bytes-cons}
 use Rattle.frame.proofs.Numbers.{bytes-append, bytes-take}
 use Rattle.label.specs.declared.request.Target.{Target}
 use Rattle.chip.specs.declared.request.Order.{Order}
@@ -35,7 +36,7 @@ use Rattle.reader.specs.Tags.{ChipGives}
 use Rattle.reader.proofs.Valid.{valid-chip, read-listed}
 use Rattle.reader.proofs.Meant.{chip-meant}
 use Rattle.reader.proofs.Gives.{Success}
-use Rattle.reader.proofs.Made.{bytes-none, bytes-cons, bytes-same, again, bytes-again, again-part}
+use Rattle.reader.proofs.Made.{bytes-none, bytes-same, again, bytes-again, again-part}
 use Rattle.reader.proofs.Given.{fits-true, told-right}
 
 -- every block s; UID, state and Chip_ID
