@@ -149,15 +149,6 @@ fn act_on(b: &[u8], order: Order, draw: u8) -> Stepped
     c.act(order, draw, o, s)
 }
 
-// What a chip answers to an order; its body stays.
-pub fn said(b: &[u8], order: Order, draw: u8) -> Answer
-    requires { ⌜ 80 ≤ length (now b) ⌝ }
-    ensures { λ r. ⌜ r ≡ saidChip order draw (now (b .entry)) ⌝ }
-{
-    let stepped = act_on(b, order, draw);
-    stepped.answer
-}
-
 // A chip's step in place: its body becomes the next body, and what it answers comes back.
 pub fn step(b: &mut [u8], order: Order, draw: u8) -> Answer
     requires { ⌜ 80 ≤ length (now b) ⌝ }

@@ -110,15 +110,6 @@ fn act_on(b: &[u8], r: Request, count: usize) -> Stepped
     l.act(r, count, k)
 }
 
-// What a label answers to a request; its body stays.
-pub fn said(b: &[u8], r: Request, data: &[u8]) -> Answer
-    requires { ⌜ 32 ≤ length (now b) ⌝ }
-    ensures { λ a. ⌜ a ≡ saidLabel r (length (now («data» .entry))) (now (b .entry)) ⌝ }
-{
-    let stepped = act_on(b, r, data.len());
-    stepped.answer
-}
-
 // A label's step in place: its body becomes the next body, and what it answers comes back.
 pub fn step(b: &mut [u8], r: Request, data: &[u8]) -> Answer
     requires { ⌜ Sized (now b) ⌝ }
