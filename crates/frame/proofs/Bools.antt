@@ -43,6 +43,10 @@ pub and-both : (a b : Bool) → (a && b) ≡ true → (a ≡ true) × (b ≡ tru
 and-both true b e = (refl, e)
 and-both false b e = absurd (false≢true e)
 
+pub and-true : (t : Bool) → t ≡ (t && true)
+and-true true = refl
+and-true false = refl
+
 pub and-off : (t u : Bool) → (t && u) ≡ false → t ≡ true → u ≡ false
 and-off true u e f = e
 and-off false u e f = absurd (false≢true f)

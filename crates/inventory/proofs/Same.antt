@@ -13,7 +13,7 @@ use lib.ListN.{length, getD, drop}
 use lib.Seq.{take-take, getD-take, getD-drop}
 use Rattle.frame.specs.Choose.{if_then_else_, gather}
 use Rattle.frame.specs.Number.{num, part}
-use Rattle.frame.proofs.Bools.{or-right, or-off}
+use Rattle.frame.proofs.Bools.{and-true, or-right, or-off}
 use Rattle.label.specs.Step.{passes}
 use Rattle.label.specs.Slots.{on}
 use Rattle.label.specs.declared.request.Family.the-variants.{Any}
@@ -41,11 +41,7 @@ module _ (rack : List ℕ) (at len k : ℕ) (long : 32 ≤ len) where
 
   pub takes-three : k ≡ 1 → (getD rack (at + 14) 0 ≡ 1 → ⊥) → eqb (getD rack (at + 14) 0) 3 ≡ (eqb k 1 && on Any (part at len rack))
   unfolding on passes
-  takes-three z h = rw (z, state-at, ne-eqb (getD rack (at + 14) 0) 1 h) (both (eqb (getD rack (at + 14) 0) 3))
-    where
-      both : (q : Bool) → q ≡ (q && true)
-      both true = refl
-      both false = refl
+  takes-three z h = rw (z, state-at, ne-eqb (getD rack (at + 14) 0) 1 h) (and-true (eqb (getD rack (at + 14) 0) 3))
 
   module _ {t : Bool} (is : t ≡ (eqb k 1 && on Any (part at len rack))) where
     none : t ≡ false → uidAt Any k (part at len rack) ≡ []

@@ -4,13 +4,12 @@
 use mathlib.Core.Path.{_≡_, refl, sym, ap, ap₂, _∙_}
 use mathlib.Core.Bool.{Bool, true, false, _&&_, false≢true}
 use mathlib.Core.List.{List, [], _∷_, _++_}
-use Prim.Native.Nat.{ℕ, suc, _+_, _-_, _*_, _%_, _≤_, _<_}
+use Prim.Native.Nat.{ℕ, suc, _+_, _-_, _%_, _≤_}
 use native.Mathlib.Omega.{arith}
-use lib.Dec.{eqb, ltb}
+use lib.Dec.{eqb}
 use lib.ListN.{length, getD, drop, length-drop}
 use lib.Seq.{length-take-le, take-at}
-use borrow.Author.Tests.{le-leb, le-ltb, eq-eqb, ltb-true}
-use Rattle.frame.specs.Choose.{if_then_else_}
+use borrow.Author.Tests.{le-leb, le-ltb, eq-eqb}
 use Rattle.frame.specs.Number.{num, bytesOf, part}
 use Rattle.frame.specs.CheckSum.{crcOf, framedWith, framed}
 use Rattle.frame.specs.Ending.{endsIn}
@@ -37,6 +36,7 @@ use Rattle.reader.specs.Answer.{said, saidOf, errorCode, isError, doneOf
 use Rattle.reader.specs.Plan.{hasAnswer, successOf}
 use Rattle.reader.proofs.Ways.{split, block-4, locked-5}
 use Rattle.label.proofs.Room.{sized-long, block-fits}
+use Rattle.chip.proofs.Shapes.{place-fits}
 
 -- a frame means what its content means
 pub read-framed : (c : Command) (uid : List ℕ) (n : ℕ) (s : List ℕ) → valid c n ≡ true → 1 ≤ length s → readingOf c uid n (framed s) ≡ shapeOf c uid s
@@ -209,15 +209,6 @@ pub select-read : (to : Target) (opt : Bool) (id : ℕ) (uid : List ℕ) (n : �
     → readingOf (Chip to opt (p.Select id)) uid n (chipAnswer.answerFrame (ca.Id id) b) ≡ said (m.Id id)
 unfolding chipAnswer.answerFrame shapeOf chipReading
 select-read to opt id uid n b v = read-framed (Chip to opt (p.Select id)) uid n (id ∷ []) v (omega arith) ∙ rw (eq-eqb id id refl)
-
--- a block stands before the UID
-place-fits : (n : ℕ) → placeOf n + 4 ≤ 68
-unfolding placeOf
-place-fits n = go (ltb n 16) (ltb-true n 16)
-  where
-    go : (x : Bool) → (x ≡ true → n < 16) → (if x then 4 * n else 64) + 4 ≤ 68
-    go true f = let h : n < 16 = f refl in omega arith
-    go false f = omega arith
 
 pub word-read : (to : Target) (opt : Bool) (x : ℕ) (uid : List ℕ) (n : ℕ) (b : List ℕ) → valid (Chip to opt (p.Read x)) n ≡ true → length b ≡ 80
     → readingOf (Chip to opt (p.Read x)) uid n (chipAnswer.answerFrame (ca.Block x) b) ≡ said (m.Word (num (part (placeOf x) 4 b)))

@@ -16,7 +16,7 @@ use Rattle.frame.specs.Choose.{if_then_else_}
 use Rattle.frame.specs.Number.{num, part, Bytes}
 use Rattle.frame.specs.CheckSum.{right}
 use Rattle.frame.specs.Ending.{endsIn}
-use Rattle.frame.proofs.Bools.{bool-same}
+use Rattle.frame.proofs.Bools.{bool-same, and-true}
 use Rattle.frame.proofs.Numbers.{num-lt}
 use Rattle.frame.proofs.Tests.{tests}
 use Rattle.label.specs.Request.{most}
@@ -60,16 +60,12 @@ pub label-2 : (r : Bool) (to : Target) (opt : Bool) (task : Task) (n : ℕ) (b :
 unfolding labelFits
 label-2 r to opt task n b e f g h = rw e (h ∙ only task (sym f ∙ g))
   where
-    end : (x : Bool) → x ≡ (x && true)
-    end true = refl
-    end false = refl
-
     only : (k : Task) → names k ≡ true → one to ≡ ((not (names k) || one to) && longest k n)
-    only t.Quiet z = end (one to)
+    only t.Quiet z = and-true (one to)
     only (t.Read b) z = absurd (false≢true z)
     only (t.Write b) z = absurd (false≢true z)
     only (t.Lock b) z = absurd (false≢true z)
-    only t.Select z = end (one to)
+    only t.Select z = and-true (one to)
     only t.Ready z = absurd (false≢true z)
     only (t.WriteAfi v) z = absurd (false≢true z)
     only t.LockAfi z = absurd (false≢true z)
