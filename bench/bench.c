@@ -100,9 +100,22 @@ static uint8_t *enter(int tag, size_t length, size_t place)
     return rack + place;
 }
 
-/* n ready labels. Easy for a walk: the low byte tells them apart. Hard: they stand in pairs that differ in the four highest bits alone, so that
- * a pair collides all the way up. */
-static void make(int n, unsigned blocks, unsigned size, int hard)
+/* The UID of label i for the fewest rounds that a walk can take: fifteen labels are alone in their slots, the others stand in the sixteenth, and so on
+ * in the next round. */
+static uint64_t best(int i)
+{
+    int level = i / 15;
+    return (uint64_t)(i % 15) << 4 * level | (((uint64_t)1 << 4 * level) - 1);
+}
+
+/* For the most: the two of a pair differ in the four highest bits alone and collide all the way up. */
+static uint64_t worst(int i)
+{
+    return (uint64_t)(i / 2) | (uint64_t)(i % 2 ? 0xD : 0xE) << 60;
+}
+
+/* n ready labels. */
+static void make(int n, unsigned blocks, unsigned size, uint64_t (*uid)(int))
 {
     size_t length = 32 + blocks * (1 + size), place = 2 + 8 * (size_t)n;
     memset(rack, 0, sizeof rack);
@@ -110,8 +123,8 @@ static void make(int n, unsigned blocks, unsigned size, int hard)
     rack[1] = (uint8_t)n;
     for (int i = 0; i < n; i++) {
         uint8_t *body = enter(i, length, place);
-        body[0] = (uint8_t)(hard ? i / 2 : i);
-        body[7] = hard && i % 2 ? 0xD0 : 0xE0;
+        for (int k = 0; k < 8; k++)
+            body[k] = (uint8_t)(uid(i) >> 8 * k);
         body[11] = (uint8_t)(blocks - 1);
         body[12] = (uint8_t)(size - 1);
         body[14] = 1;
@@ -168,7 +181,7 @@ static void events(int n, unsigned blocks, unsigned size)
 {
     static const uint8_t inventory[] = { 0x06, 0x01, 0x00, 0xCD, 0x09 }, info[] = { 0x02, 0x2B, 0x26, 0xA3 };
     char what[80];
-    make(n, blocks, size, 0);
+    make(n, blocks, size, best);
     now = (struct play) { (uint8_t)n, 4, NULL, 0 };
     snprintf(what, sizeof what, "event: end of frame, rack of %zu bytes", rack_len);
     row(what, n, our_event, the_event);
@@ -179,18 +192,18 @@ static void events(int n, unsigned blocks, unsigned size)
 }
 
 /* Walks one rack over and over; each walk must take as many rounds as the first did in the reference, else the times do not compare. */
-static void walks(const char *what, int hard)
+static void walks(const char *what, uint64_t (*uid)(int))
 {
     for (int n = 1; n <= 64; n *= n < 16 ? 4 : 2) {
         struct ref_walked w;
         char name[80];
-        make(n, 1, 1, hard);
+        make(n, 1, 1, uid);
         memcpy(work, rack, sizeof work);
         ref_walk(work, rack_len, 0, 0, list, sizeof list, &w);
         for (int i = 0; i < 3; i++)
             if (sackbutflare_walk(work, rack_len, false, 0, list, sizeof list).rounds != w.rounds)
                 printf("other rounds than the reference\n");
-        snprintf(name, sizeof name, "walk, %s: %u rounds", what, w.rounds);
+        snprintf(name, sizeof name, "walk, %s: rounds %u", what, w.rounds);
         row(name, n, our_walk, the_walk);
     }
 }
@@ -198,7 +211,7 @@ static void walks(const char *what, int hard)
 int main(void)
 {
     printf("| call | tags | ns ours | ns C | ratio |\n|---|---|---|---|---|\n");
-    make(1, 4, 4, 0);
+    make(1, 4, 4, best);
     make_table();
     sums(5);
     sums(14);
@@ -207,7 +220,7 @@ int main(void)
     for (int n = 1; n <= 64; n *= 8)
         events(n, 4, 4);
     events(64, 28, 32);
-    walks("easy", 0);
-    walks("hard", 1);
+    walks("best", best);
+    walks("worst", worst);
     return 0;
 }
