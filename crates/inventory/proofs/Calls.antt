@@ -10,7 +10,7 @@ use lib.ListN.{length}
 use lib.Seq.{sets}
 use Rattle.frame.specs.Number.{Bytes}
 use Rattle.frame.specs.declared.verdict.Verdict.{Verdict}
-use Rattle.label.specs.declared.request.Family.{Family}
+use Rattle.ask.specs.declared.label.Family.{Family}
 use Rattle.rack.specs.File.{countOf, verdictOf}
 use Rattle.rack.specs.Facts.{RackFine}
 use Rattle.inventory.specs.declared.walk.Walked.{Walked}

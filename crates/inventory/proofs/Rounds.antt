@@ -8,9 +8,9 @@ use native.Mathlib.Omega.{arith}
 use lib.ListN.{length, getD, replicate}
 use Rattle.frame.specs.Choose.{gather}
 use Rattle.frame.specs.Number.{part}
-use Rattle.label.specs.declared.request.Family.{Family}
-use Rattle.label.specs.declared.request.Call.{Call}
-use Rattle.label.specs.declared.request.Call.the-variants.{Inventory, EndOfFrame}
+use Rattle.ask.specs.declared.label.Family.{Family}
+use Rattle.ask.specs.declared.label.Call.{Call}
+use Rattle.ask.specs.declared.label.Call.the-variants.{Inventory, EndOfFrame}
 use Rattle.rack.specs.File.{countOf, kindAt, lengthAt, bodyAt, rebuilt}
 use Rattle.rack.specs.Facts.{RackFine}
 use Rattle.rack.specs.Event.{Outcome, opened}

@@ -16,7 +16,7 @@ use Rattle.frame.specs.Number.{num, part}
 use Rattle.frame.proofs.Bools.{and-true, or-right, or-off}
 use Rattle.label.specs.Step.{passes}
 use Rattle.label.specs.Slots.{on}
-use Rattle.label.specs.declared.request.Family.the-variants.{Any}
+use Rattle.ask.specs.declared.label.Family.the-variants.{Any}
 use Rattle.rack.specs.File.{countOf, entryAt, kindAt, lengthAt, startOf, bodyAt}
 use Rattle.rack.specs.Facts.{RackFine}
 use Rattle.inventory.specs.Endings.{one, count}

@@ -8,13 +8,13 @@ use native.Mathlib.Omega.{arith}
 use lib.Dec.{eqb, ltb}
 use Rattle.frame.proofs.Bools.{if-both}
 use Rattle.frame.specs.Ending.{endsInSlot}
-use Rattle.label.specs.Request.{bare}
+use Rattle.ask.specs.Label.{bare}
 use Rattle.label.specs.Step.{told, silent, withSlot, ended, ready, passes, awake, turn, inventory, endOfFrame, called, act}
 use Rattle.label.specs.Body.{loadOf, stepped, saidLabel}
 use Rattle.label.specs.Answer.{speaks}
-use Rattle.label.specs.declared.request.Family.{Family}
-use Rattle.label.specs.declared.request.Call.{Call}
-use Rattle.label.specs.declared.request.Call.the-variants as k
+use Rattle.ask.specs.declared.label.Family.{Family}
+use Rattle.ask.specs.declared.label.Call.{Call}
+use Rattle.ask.specs.declared.label.Call.the-variants as k
 use Rattle.label.specs.declared.step.Label.{Label}
 use Rattle.label.specs.declared.step.Answer.the-variants.{Found}
 use Rattle.label.specs.declared.step.Stepped.{Stepped}

@@ -13,7 +13,7 @@ use lib.Seq.{sets, length-sets}
 use Rattle.frame.specs.Ending.{longer}
 use Rattle.frame.specs.Number.{Bytes}
 use Rattle.frame.proofs.Puts.{sets-append}
-use Rattle.label.specs.declared.request.Family.{Family}
+use Rattle.ask.specs.declared.label.Family.{Family}
 use Rattle.rack.specs.Facts.{RackFine}
 use Rattle.inventory.specs.Walk.{Trip, round, depth, join, start, turn, upto, explore}
 use Rattle.inventory.proofs.Events.{Fine}

@@ -12,8 +12,8 @@ use lib.Seq.{sets, length-sets, set-at, drop-cons}
 use Rattle.frame.specs.Choose.{gather}
 use Rattle.frame.proofs.Lists.{gather-suc}
 use Rattle.frame.proofs.Puts.{sets-append}
-use Rattle.label.specs.declared.request.Family.{Family}
-use Rattle.label.specs.declared.request.Call.the-variants.{Inventory, EndOfFrame}
+use Rattle.ask.specs.declared.label.Family.{Family}
+use Rattle.ask.specs.declared.label.Call.the-variants.{Inventory, EndOfFrame}
 use Rattle.rack.specs.Facts.{RackFine}
 use Rattle.inventory.specs.Walk.{slotOutcome, hits, alone, round}
 use Rattle.inventory.specs.Sent.{after, heard, uidAlone, noted, HeardFrom}

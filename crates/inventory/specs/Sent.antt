@@ -7,9 +7,9 @@ use lib.Dec.{eqb}
 use lib.ListN.{length, replicate}
 use Rattle.frame.specs.Choose.{if_then_else_}
 use Rattle.frame.specs.Number.{part}
-use Rattle.label.specs.Request.{bare}
-use Rattle.label.specs.declared.request.Call.{Call}
-use Rattle.label.specs.declared.request.Call.the-variants as k
+use Rattle.ask.specs.Label.{bare}
+use Rattle.ask.specs.declared.label.Call.{Call}
+use Rattle.ask.specs.declared.label.Call.the-variants as k
 use Rattle.chip.specs.declared.request.Order.the-variants as o
 use Rattle.rack.specs.File.{countOf}
 use Rattle.rack.specs.Event.{Signal, nextRack, answers}

@@ -9,7 +9,7 @@ ghost use lib.Dec.{eqb, leb};
 ghost use lib.ListN.{length};
 ghost use Rattle.frame.specs.Number.{part};
 ghost use Rattle.label.specs.Slots.{on};
-ghost use Rattle.label.specs.declared.request.Family.the-variants.{Any};
+ghost use Rattle.ask.specs.declared.label.Family.the-variants.{Any};
 ghost use Rattle.rack.specs.File.{countOf};
 ghost use Rattle.rack.specs.Facts.{RackFine};
 ghost use Rattle.inventory.specs.Endings.{count};

@@ -1,8 +1,8 @@
 // The walk: a round, and then each collided slot carried through.
 use crate::round::play_round;
 use crate::twins::has_twins;
+use ask::label::Family;
 use frame::uid::longer_mask;
-use label::request::Family;
 use rack::file::count;
 use rack::file::judge;
 ghost use mathlib.Core.Path.{_≡_};

@@ -1,10 +1,6 @@
 -- The laws of the crate's definitions, for its own proofs and for those of the crates above.
-pub mod Lookup
-pub mod Requests
 pub mod Judging
-pub mod Decoded
 pub mod Fine
-pub mod Back
 pub mod Others
 pub mod Room
 pub mod Stored

@@ -1,6 +1,4 @@
 -- A label, as definitions: document 01, "Labels", "Events" and the label body of "Rack file".
-pub mod Table
-pub mod Request
 pub mod Step
 pub mod Body
 pub mod Answer

@@ -1,11 +1,11 @@
 // A label's body: the label it holds, and a step in place.
-use crate::request::Call;
-use crate::request::Order;
-use crate::request::Request;
 use crate::step::Answer;
 use crate::step::Label;
 use crate::step::Stepped;
 use crate::step::Work;
+use ask::label::Call;
+use ask::label::Order;
+use ask::label::Request;
 use frame::number::byte_at;
 use frame::number::number_at;
 use frame::put::put_bytes;

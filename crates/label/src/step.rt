@@ -1,9 +1,9 @@
 // What a label does with a request: each step takes the old label and gives back the new one, what it answers and what is written.
-use crate::request::Call;
-use crate::request::Family;
-use crate::request::Order;
-use crate::request::Request;
-use crate::request::Target;
+use ask::label::Call;
+use ask::label::Family;
+use ask::label::Order;
+use ask::label::Request;
+use ask::label::Target;
 use frame::uid::ends_in;
 use frame::uid::ends_in_slot;
 use frame::uid::same_uid;

@@ -15,8 +15,8 @@ use Rattle.frame.specs.declared.verdict.Verdict.{Verdict}
 use Rattle.frame.proofs.Bools.{and-both}
 use Rattle.frame.proofs.Puts.{sets-front}
 use Rattle.frame.proofs.Verdicts.{not-none}
-use Rattle.label.specs.Request as labels
-use Rattle.label.specs.declared.request.Request.{Request}
+use Rattle.ask.specs.Label as labels
+use Rattle.ask.specs.declared.label.Request.{Request}
 use Rattle.chip.specs.Request as chips
 use Rattle.chip.specs.declared.request.Order.{Order}
 use Rattle.rack.specs.declared.event.Said.{Said}

@@ -13,10 +13,10 @@ use Rattle.frame.specs.declared.verdict.Verdict.{Verdict}
 use Rattle.frame.proofs.Bools.{and-both, if-both}
 use Rattle.label.specs.declared.step.Answer.{Answer}
 use Rattle.label.specs.declared.step.Answer.the-variants as a
-use Rattle.label.specs.Request as labels
+use Rattle.ask.specs.Label as labels
 use Rattle.label.specs.Body.{Sized, labelRules, nextLabel, saidLabel}
 use Rattle.label.specs.Answer.{Told}
-use Rattle.label.proofs.Decoded as label-decoded
+use Rattle.ask.proofs.Decoded as label-decoded
 use Rattle.label.proofs.Fine as label-fine
 use Rattle.label.proofs.Keeps as label-keeps
 use Rattle.label.proofs.Answers as label-answers

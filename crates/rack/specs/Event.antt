@@ -6,10 +6,10 @@ use Prim.Native.Nat.{ℕ, _<_}
 use lib.Dec.{eqb, ltb, leb}
 use lib.ListN.{length, getD, drop}
 use Rattle.frame.specs.Choose.{if_then_else_, gather}
-use Rattle.label.specs.Request as labels
+use Rattle.ask.specs.Label as labels
 use Rattle.label.specs.Body.{nextLabel, saidLabel}
 use Rattle.label.specs.Answer as label
-use Rattle.label.specs.declared.request.Request.{Request}
+use Rattle.ask.specs.declared.label.Request.{Request}
 use Rattle.chip.specs.Request as chips
 use Rattle.chip.specs.Body.{nextChip, saidChip}
 use Rattle.chip.specs.Answer as chip

@@ -1,8 +1,8 @@
 // One tag of a rack, by its kind: its rules, its step and its answer's frame.
 use crate::event::Said;
+use ask::label::Request;
 use chip::request::Order;
 use frame::verdict::Verdict;
-use label::request::Request;
 ghost use mathlib.Core.Path.{_≡_};
 ghost use mathlib.Core.Bool.{true};
 ghost use Prim.Native.Nat.{_≤_};

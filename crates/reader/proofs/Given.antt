@@ -20,16 +20,16 @@ use Rattle.frame.proofs.Bools.{and-both, or-right, eqb-same, if-true, if-false}
 use Rattle.frame.proofs.Frames.{right-framed}
 use Rattle.frame.proofs.Lists.{window, window-take, window-all}
 use Rattle.frame.proofs.Numbers.{bytes-take, bytes-drop, bytes-part}
-use Rattle.label.specs.declared.request.Target.{Target}
-use Rattle.label.specs.declared.request.Target.the-variants.{Everyone, Selected, One}
-use Rattle.label.specs.declared.request.Family.{Family}
-use Rattle.label.specs.declared.request.Family.the-variants.{Any, Only}
-use Rattle.label.specs.declared.request.Call.the-variants as k
-use Rattle.label.specs.declared.request.Request.{Request}
+use Rattle.ask.specs.declared.label.Target.{Target}
+use Rattle.ask.specs.declared.label.Target.the-variants.{Everyone, Selected, One}
+use Rattle.ask.specs.declared.label.Family.{Family}
+use Rattle.ask.specs.declared.label.Family.the-variants.{Any, Only}
+use Rattle.ask.specs.declared.label.Call.the-variants as k
+use Rattle.ask.specs.declared.label.Request.{Request}
 use Rattle.label.specs.declared.step.Answer.{Answer}
 use Rattle.label.specs.declared.step.Answer.the-variants as a
 use Rattle.label.specs.declared.step.Stepped.{Stepped}
-use Rattle.label.specs.Request.{bare, decode, dataOf}
+use Rattle.ask.specs.Label.{bare, decode, dataOf}
 use Rattle.label.specs.Step as steps
 use Rattle.label.specs.Body as label
 use Rattle.label.specs.Answer.{speaks, blockBytes, answerFrame}

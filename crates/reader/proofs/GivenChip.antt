@@ -17,7 +17,7 @@ use Rattle.frame.proofs.Bools.{and-both, if-true, if-false}
 use Rattle.frame.proofs.Lists.{window, window-all}
 use Rattle.frame.proofs.Stores.{bytes-cons}
 use Rattle.frame.proofs.Numbers.{bytes-append, bytes-take}
-use Rattle.label.specs.declared.request.Target.{Target}
+use Rattle.ask.specs.declared.label.Target.{Target}
 use Rattle.chip.specs.declared.request.Order.{Order}
 use Rattle.chip.specs.declared.step.Answer.{Answer}
 use Rattle.chip.specs.declared.step.Answer.the-variants as a

@@ -16,18 +16,18 @@ use Rattle.frame.specs.Number.{num, part, Bytes}
 use Rattle.frame.specs.Ending.{endsIn, endsInSlot}
 use Rattle.frame.specs.declared.verdict.Verdict.{Verdict}
 use Rattle.frame.proofs.Bools.{and-both, eqb-same, if-either}
-use Rattle.label.specs.declared.request.Target.{Target}
-use Rattle.label.specs.declared.request.Target.the-variants.{Everyone, Selected, One}
-use Rattle.label.specs.declared.request.Family.{Family}
-use Rattle.label.specs.declared.request.Family.the-variants.{Only}
-use Rattle.label.specs.declared.request.Order.{Order}
-use Rattle.label.specs.declared.request.Call.the-variants as k
-use Rattle.label.specs.declared.request.Request.{Request}
+use Rattle.ask.specs.declared.label.Target.{Target}
+use Rattle.ask.specs.declared.label.Target.the-variants.{Everyone, Selected, One}
+use Rattle.ask.specs.declared.label.Family.{Family}
+use Rattle.ask.specs.declared.label.Family.the-variants.{Only}
+use Rattle.ask.specs.declared.label.Order.{Order}
+use Rattle.ask.specs.declared.label.Call.the-variants as k
+use Rattle.ask.specs.declared.label.Request.{Request}
 use Rattle.label.specs.declared.step.Label.{Label}
 use Rattle.label.specs.declared.step.Answer.{Answer}
 use Rattle.label.specs.declared.step.Answer.the-variants as a
 use Rattle.label.specs.declared.step.Stepped as steppedLabel
-use Rattle.label.specs.Request.{bare, decode, dataOf}
+use Rattle.ask.specs.Label.{bare, decode, dataOf}
 use Rattle.label.specs.Step as steps
 use Rattle.label.specs.Body as label
 use Rattle.label.specs.Answer.{speaks, answerFrame}

@@ -15,8 +15,8 @@ use Rattle.frame.specs.CheckSum.{crcOf, framedWith, framed}
 use Rattle.frame.specs.Ending.{endsIn}
 use Rattle.frame.proofs.Frames.{length-framed, content-framed, right-all}
 use Rattle.frame.proofs.Lists.{window, window-take, window-all}
-use Rattle.label.specs.declared.request.Target.{Target}
-use Rattle.label.specs.declared.request.Family.{Family}
+use Rattle.ask.specs.declared.label.Target.{Target}
+use Rattle.ask.specs.declared.label.Family.{Family}
 use Rattle.label.specs.declared.step.Answer.the-variants as a
 use Rattle.label.specs.Body.{sizeOf, lockAt, blockAt}
 use Rattle.label.specs.Facts.{LabelFine}

@@ -19,8 +19,8 @@ use Rattle.frame.specs.Ending.{endsIn}
 use Rattle.frame.proofs.Bools.{bool-same, and-true}
 use Rattle.frame.proofs.Numbers.{num-lt}
 use Rattle.frame.proofs.Tests.{tests}
-use Rattle.label.specs.Request.{most}
-use Rattle.label.specs.declared.request.Target.{Target}
+use Rattle.ask.specs.Label.{most}
+use Rattle.ask.specs.declared.label.Target.{Target}
 use Rattle.chip.specs.Request.{listed}
 use Rattle.reader.specs.declared.command.Task.{Task}
 use Rattle.reader.specs.declared.command.Task.the-variants as t

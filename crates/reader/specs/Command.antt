@@ -2,9 +2,9 @@
 use mathlib.Core.Bool.{Bool, true, false, not, _&&_, _||_}
 use Prim.Native.Nat.{ℕ, _^_}
 use lib.Dec.{eqb, ltb, leb}
-use Rattle.label.specs.Request.{most}
-use Rattle.label.specs.declared.request.Target.{Target}
-use Rattle.label.specs.declared.request.Target.the-variants.{Everyone, Selected, One}
+use Rattle.ask.specs.Label.{most}
+use Rattle.ask.specs.declared.label.Target.{Target}
+use Rattle.ask.specs.declared.label.Target.the-variants.{Everyone, Selected, One}
 use Rattle.chip.specs.Request.{listed}
 use Rattle.reader.specs.declared.command.Task.{Task}
 use Rattle.reader.specs.declared.command.Task.the-variants as t

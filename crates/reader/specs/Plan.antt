@@ -7,10 +7,10 @@ use lib.ListN.{take}
 use Rattle.frame.specs.Choose.{if_then_else_}
 use Rattle.frame.specs.Number.{bytesOf}
 use Rattle.frame.specs.Ending.{bytesFor}
-use Rattle.label.specs.declared.request.Target.{Target}
-use Rattle.label.specs.declared.request.Target.the-variants.{Everyone, Selected, One}
-use Rattle.label.specs.declared.request.Family.{Family}
-use Rattle.label.specs.declared.request.Family.the-variants.{Any, Only}
+use Rattle.ask.specs.declared.label.Target.{Target}
+use Rattle.ask.specs.declared.label.Target.the-variants.{Everyone, Selected, One}
+use Rattle.ask.specs.declared.label.Family.{Family}
+use Rattle.ask.specs.declared.label.Family.the-variants.{Any, Only}
 use Rattle.reader.specs.declared.command.Task.{Task}
 use Rattle.reader.specs.declared.command.Task.the-variants as t
 use Rattle.reader.specs.declared.command.ChipTask.{ChipTask}

@@ -8,14 +8,14 @@ use Rattle.frame.specs.Choose.{if_then_else_}
 use Rattle.frame.specs.Number.{num, bytesOf}
 use Rattle.frame.specs.CheckSum.{framed}
 use Rattle.frame.specs.Ending.{bytesFor}
-use Rattle.label.specs.declared.request.Target.{Target}
-use Rattle.label.specs.declared.request.Target.the-variants.{Everyone, Selected, One}
-use Rattle.label.specs.declared.request.Family.{Family}
-use Rattle.label.specs.declared.request.Family.the-variants.{Any, Only}
-use Rattle.label.specs.declared.request.Order.{Order}
-use Rattle.label.specs.declared.request.Order.the-variants as o
-use Rattle.label.specs.declared.request.Call.the-variants as k
-use Rattle.label.specs.declared.request.Request as asked
+use Rattle.ask.specs.declared.label.Target.{Target}
+use Rattle.ask.specs.declared.label.Target.the-variants.{Everyone, Selected, One}
+use Rattle.ask.specs.declared.label.Family.{Family}
+use Rattle.ask.specs.declared.label.Family.the-variants.{Any, Only}
+use Rattle.ask.specs.declared.label.Order.{Order}
+use Rattle.ask.specs.declared.label.Order.the-variants as o
+use Rattle.ask.specs.declared.label.Call.the-variants as k
+use Rattle.ask.specs.declared.label.Request as asked
 use Rattle.chip.specs.declared.request.Order as chip
 use Rattle.chip.specs.declared.request.Order.the-variants as c
 use Rattle.reader.specs.declared.command.Task.{Task}

@@ -1,12 +1,12 @@
 // What a reader can send, and whether there is a request with these fields.
+use ask::label::Family;
+use ask::label::Target;
 use chip::request::is_listed;
 use frame::uid::low_bits;
-use label::request::Family;
-use label::request::Target;
 ghost use mathlib.Core.Path.{_≡_};
 ghost use mathlib.Core.Bool.{not, _&&_};
 ghost use lib.Dec.{eqb, leb};
-ghost use Rattle.label.specs.Request.{most};
+ghost use Rattle.ask.specs.Label.{most};
 ghost use Rattle.chip.specs.Request.{listed};
 ghost use Rattle.reader.specs.Command.{everyone, one, reads, names, longest, labelFits, chipFits, inventoryFits, valid};
 

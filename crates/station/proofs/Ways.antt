@@ -7,9 +7,9 @@ use Prim.Native.Nat.{ℕ, _≤_, _<_}
 use borrow.Author.Tests.{lt-ltb, le-ltb, eq-eqb, ne-eqb}
 use Rattle.frame.specs.Number.{num}
 use Rattle.frame.proofs.Tests.{tests}
-use Rattle.label.specs.declared.request.Family.{Family}
-use Rattle.label.specs.declared.request.Target.{Target}
-use Rattle.label.specs.declared.request.Target.the-variants.{Everyone, Selected, One}
+use Rattle.ask.specs.declared.label.Family.{Family}
+use Rattle.ask.specs.declared.label.Target.{Target}
+use Rattle.ask.specs.declared.label.Target.the-variants.{Everyone, Selected, One}
 use Rattle.reader.specs.declared.command.Command.{Command}
 use Rattle.reader.specs.declared.command.Command.the-variants.{Inventory, Other}
 use Rattle.reader.specs.declared.answer.Meaning.{Meaning}

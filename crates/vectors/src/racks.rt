@@ -1,8 +1,8 @@
 // Events and walks as calls: their numbers, and whether a lent buffer was written to.
+use ask::label::Family;
 use frame::number::byte_at;
 use inventory::walk::Walked;
 use inventory::walk::walk;
-use label::request::Family;
 use rack::event::Report;
 use rack::event::event;
 use script::replies::print_uids;

@@ -3,7 +3,7 @@ use mathlib.Core.Path.{_≡_, _∙_}
 use mathlib.Core.List.{List}
 use Prim.Native.Nat.{ℕ, _-_, _<_, _≤_}
 use native.Mathlib.Omega.{arith}
-use Rattle.label.specs.declared.request.Family.the-variants.{Any}
+use Rattle.ask.specs.declared.label.Family.the-variants.{Any}
 use Rattle.inventory.specs.Walk.{uidAt, uidsTo, among}
 use Rattle.inventory.proofs.Same.{Along, Here, repeats, along-none, here-room, here-asks, here-tag, here-more, here-found, along-done, twins-any}
 use Rattle.inventory.proofs.twins.has_twins.Statement.{statement}

@@ -4,7 +4,7 @@ use mathlib.Core.List.{List}
 use Prim.Native.Nat.{ℕ, _-_, _<_, _≤_}
 use native.Mathlib.Omega.{arith}
 use lib.Dec.{leb}
-use Rattle.label.specs.declared.request.Family.the-variants.{Any}
+use Rattle.ask.specs.declared.label.Family.the-variants.{Any}
 use Rattle.inventory.specs.Endings.{count}
 use Rattle.inventory.specs.Walk.{uidAt}
 use Rattle.inventory.proofs.Same.{Along, Here, sees, along-none, here-room, here-asks, here-tag, here-more, here-found, along-done, seen-any}
