@@ -22,3 +22,12 @@ archive() {
     rm -f "$made"
     rt staticlib station
 }
+
+# The same as a part of a test, which has sourced count.sh.
+archived() {
+    local status
+    archive >"$work/log" 2>&1
+    status=$?
+    [ "$status" = 0 ] || cat "$work/log"
+    told "$status" "rt staticlib station"
+}
