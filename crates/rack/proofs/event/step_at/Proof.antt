@@ -1,17 +1,18 @@
 -- The part that is lent is the one named, and the whole comes back with what the tag left in it.
 -- Assumes nothing.
-use mathlib.Core.Path.{refl}
+use mathlib.Core.Path.{refl, sym, subst}
 use native.Mathlib.Nat.{add-sub-cancel-left}
 use denote.Ref.{now}
 use borrow.Author.Needs.{needs}
 use Rattle.rack.proofs.Places.{span-part}
+use Rattle.rack.specs.Facts.{TagFine}
 use Rattle.rack.proofs.event.step_at.Statement.{statement}
 use Rattle.rack.proofs.event.step_at.Tie as tie
 
 step-tag-requires : tie.Need-step-tag-requires
 step-tag-requires c κs =
     let s = c .before .before .before in
-    rw (span-part (s .args .at) (s .args .len) (now (s .args .rack))) (s .pre .1)
+    subst (TagFine (s .args .kind)) (sym (span-part (s .args .at) (s .args .len) (now (s .args .rack)))) (s .pre .1)
 
 returns : tie.Need-returns
 returns c =
