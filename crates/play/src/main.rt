@@ -15,6 +15,8 @@ use text::lines::source_of;
 use text::print::number;
 use text::print::say;
 use text::print::say_number;
+ghost use mathlib.Core.Path.{_≡_};
+ghost use Rattle.script.specs.Lines.{stepOf, played, lineRack};
 
 // How many lines and events there were.
 struct Tally {
@@ -40,7 +42,9 @@ fn too_long(n: u64) {
 }
 
 // Plays event n, of a kind.
-fn play(n: u64, kind: u8, frame: &[u8], tags: &mut [u8], draws: &[u8]) {
+fn play(n: u64, kind: u8, frame: &[u8], tags: &mut [u8], draws: &[u8])
+    ensures { λ r. ⌜ now (tags .exit) ≡ played (now (tags .entry)) kind (now (frame .entry)) (now (draws .entry)) ⌝ }
+{
     number(n);
     print_kind(kind);
     play_event(tags, kind, frame, draws);
@@ -55,7 +59,10 @@ fn play_line(
     tags: &mut [u8],
     draws: &mut [u8],
     bytes: &mut [u8],
-) -> u64 {
+) -> u64
+    ensures { λ r. ⌜ now (tags .exit) ≡ lineRack (now (line .entry)) (now (draws .entry)) (now (bytes .entry)) (now (tags .entry)) ⌝ }
+    ensures { λ r. ⌜ now (draws .exit) ≡ stepOf (now (line .entry)) (now (draws .entry)) (now (bytes .entry)) .draws ⌝ }
+{
     let step = step_of(line, draws, bytes);
     match step {
         Step::Nothing => events,

@@ -1,2 +1,4 @@
 -- The laws of what a line asks.
-pub mod Holds
+pub mod Pads
+pub mod Asks
+pub mod Meant

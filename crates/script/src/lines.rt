@@ -6,9 +6,11 @@ use text::hex::read_bytes;
 use text::words::Word;
 use text::words::first_word;
 use text::words::is_blank_rest;
-ghost use Prim.Native.Nat.{_≤_};
-ghost use lib.ListN.{length};
-ghost use Rattle.script.specs.Held.{Held};
+ghost use mathlib.Core.Path.{_≡_};
+ghost use mathlib.Core.Bool.{false};
+ghost use Prim.Native.Nat.{_+_, _^_, _≤_, _<_};
+ghost use lib.ListN.{length, drop};
+ghost use Rattle.script.specs.Lines.{bareStep, frameStep, framedStep, sealed, framedBytes, drawnStep, drawnDraws, readTo, stepOf};
 
 // What is wrong with a line.
 pub enum Trouble {
@@ -32,14 +34,16 @@ pub enum Step {
 }
 
 // The column of a place behind a word that ends at `rest`.
-fn column(rest: usize, place: usize) -> u64 {
-    let at = std::num::wrapping_add_u64(rest as u64, place as u64);
-    std::num::wrapping_add_u64(at, 1)
+fn column(rest: usize, place: usize) -> u64
+    requires { ⌜ rest + place + 1 < 2 ^ 64 ⌝ }
+    ensures { λ r. ⌜ r ≡ rest + place + 1 ⌝ }
+{
+    (rest + place + 1) as u64
 }
 
 // An event with no frame.
 fn bare(line: &[u8], rest: usize, number: u8) -> Step
-    ensures { λ r. ⌜ Held r 0 ⌝ }
+    ensures { λ r. ⌜ r ≡ bareStep number (drop rest (now (line .entry))) ⌝ }
 {
     if is_blank_rest(line, rest) {
         return Step::Play(number, 0);
@@ -49,7 +53,8 @@ fn bare(line: &[u8], rest: usize, number: u8) -> Step
 
 // An event with the first n of the bytes and their check sum.
 fn summed(number: u8, bytes: &mut [u8], n: usize) -> Step
-    ensures { λ r. ⌜ Held r (length (now (bytes .exit))) ⌝ }
+    ensures { λ r. ⌜ r ≡ frameStep false number (length (now (bytes .entry))) n ⌝ }
+    ensures { λ r. ⌜ now (bytes .exit) ≡ sealed n (now (bytes .entry)) ⌝ }
 {
     if bytes.len() < 2 {
         return Step::Wrong(Trouble::Full);
@@ -61,15 +66,16 @@ fn summed(number: u8, bytes: &mut [u8], n: usize) -> Step
     Step::Play(number, m)
 }
 
-// An event with a frame, which has its check sum or gets it here.
-fn framed(line: &[u8], rest: usize, number: u8, has_sum: bool, bytes: &mut [u8]) -> Step
+// An event with a frame; where it is not whole, its check sum is added.
+fn framed(line: &[u8], rest: usize, number: u8, whole: bool, bytes: &mut [u8]) -> Step
     requires { ⌜ rest ≤ length (now line) ⌝ }
-    ensures { λ r. ⌜ Held r (length (now (bytes .exit))) ⌝ }
+    ensures { λ r. ⌜ r ≡ framedStep number whole rest (drop rest (now (line .entry))) (length (now (bytes .entry))) ⌝ }
+    ensures { λ r. ⌜ now (bytes .exit) ≡ framedBytes whole (drop rest (now (line .entry))) (now (bytes .entry)) ⌝ }
 {
     let run = read_bytes(&line[rest..], bytes);
     match run {
         Run::Bytes(n) => {
-            if has_sum {
+            if whole {
                 return Step::Play(number, n);
             }
             summed(number, bytes, n)
@@ -83,7 +89,9 @@ fn framed(line: &[u8], rest: usize, number: u8, has_sum: bool, bytes: &mut [u8])
 // Draws for what follows.
 fn drawn(line: &[u8], rest: usize, draws: &mut [u8], bytes: &mut [u8]) -> Step
     requires { ⌜ rest ≤ length (now line) ⌝ }
-    ensures { λ r. ⌜ Held r 0 ⌝ }
+    ensures { λ r. ⌜ r ≡ drawnStep rest (drop rest (now (line .entry))) (length (now (bytes .entry))) ⌝ }
+    ensures { λ r. ⌜ now (draws .exit) ≡ drawnDraws (drop rest (now (line .entry))) (length (now (bytes .entry))) (now (draws .entry)) ⌝ }
+    ensures { λ r. ⌜ now (bytes .exit) ≡ readTo (drop rest (now (line .entry))) (now (bytes .entry)) ⌝ }
 {
     let run = read_bytes(&line[rest..], bytes);
     match run {
@@ -99,7 +107,9 @@ fn drawn(line: &[u8], rest: usize, draws: &mut [u8], bytes: &mut [u8]) -> Step
 
 // What a line asks; the bytes behind its word go to the front of a buffer. A line of draws sets them.
 pub fn step_of(line: &[u8], draws: &mut [u8], bytes: &mut [u8]) -> Step
-    ensures { λ r. ⌜ Held r (length (now (bytes .exit))) ⌝ }
+    ensures { λ r. ⌜ r ≡ stepOf (now (line .entry)) (now (draws .entry)) (now (bytes .entry)) .step ⌝ }
+    ensures { λ r. ⌜ now (draws .exit) ≡ stepOf (now (line .entry)) (now (draws .entry)) (now (bytes .entry)) .draws ⌝ }
+    ensures { λ r. ⌜ now (bytes .exit) ≡ stepOf (now (line .entry)) (now (draws .entry)) (now (bytes .entry)) .bytes ⌝ }
 {
     let said = first_word(line);
     let rest = said.rest;

@@ -7,6 +7,8 @@ use text::hex::print_bytes;
 use text::hex::print_uid;
 use text::print::say;
 use text::print::say_number;
+ghost use mathlib.Core.Path.{_≡_};
+ghost use Rattle.script.specs.Lines.{played};
 
 // An event's kind, between its number and its reply.
 pub fn print_kind(number: u8) {
@@ -41,7 +43,9 @@ fn print_reply(report: Report, answer: &[u8]) {
 }
 
 // Plays an event on a rack and writes its reply.
-pub fn play_event(tags: &mut [u8], number: u8, frame: &[u8], draws: &[u8]) {
+pub fn play_event(tags: &mut [u8], number: u8, frame: &[u8], draws: &[u8])
+    ensures { λ r. ⌜ now (tags .exit) ≡ played (now (tags .entry)) number (now (frame .entry)) (now (draws .entry)) ⌝ }
+{
     let mut answer = [0u8; 64];
     let n = draws_for(tags, draws.len());
     let report = event(tags, number, frame, &draws[0..n], &mut answer);

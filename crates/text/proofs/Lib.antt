@@ -1,3 +1,6 @@
--- The laws of hex digits and of runs of them.
+-- The laws of words, of hex digits and of runs of them.
+pub mod Leads
+pub mod Sames
+pub mod Firsts
 pub mod Hexes
-pub mod Counts
+pub mod Runs

@@ -1,7 +1,63 @@
--- Places in a line. Assumes nothing.
-use Prim.Native.Nat.{ℕ, _≤_}
+-- Words of a line, parted by blanks: spaces and tabs. Assumes nothing.
+use mathlib.Core.Bool.{Bool, true, false, not, _&&_, _||_}
+use mathlib.Core.List.{List, [], _∷_}
+use Prim.Native.Nat.{ℕ, suc, _+_}
+use lib.Dec.{eqb}
+use lib.ListN.{length, getD, take, drop}
+use Rattle.frame.specs.Choose.{if_then_else_}
+use Rattle.text.specs.declared.words.Word.{Word}
+use Rattle.text.specs.declared.words.Word.the-variants as w
+use Rattle.text.specs.declared.words.Said.{Said}
 
--- place r is not before `from`, and not past m
-pub record Behind (from r m : ℕ) : Type 0 where
-  pub after : from ≤ r
-  pub within : r ≤ m
+unfoldable pub blank : ℕ → Bool
+blank c = eqb c 32 || eqb c 9
+
+abbrev pub solid : ℕ → Bool
+solid c = not (blank c)
+
+-- how many of the first bytes of a text pass a test
+abbrev pub leading : (ℕ → Bool) → List ℕ → ℕ
+leading p [] = 0
+leading p (c ∷ s) = if p c then suc (leading p s) else 0
+
+-- the same bytes
+abbrev pub sameText : List ℕ → List ℕ → Bool
+sameText [] [] = true
+sameText [] (b ∷ t) = false
+sameText (a ∷ s) [] = false
+sameText (a ∷ s) (b ∷ t) = eqb a b && sameText s t
+
+-- off, on, eof: words that take nothing
+unfoldable pub bareWord : List ℕ → Word
+bareWord s =
+    if sameText s (111 ∷ 102 ∷ 102 ∷ []) then w.Off
+    else if sameText s (111 ∷ 110 ∷ []) then w.On
+    else if sameText s (101 ∷ 111 ∷ 102 ∷ []) then w.Eof
+    else w.Unknown
+
+-- label, label+, chip, chip+, draws: words that take bytes
+unfoldable pub wordOf : List ℕ → Word
+wordOf s =
+    if sameText s (108 ∷ 97 ∷ 98 ∷ 101 ∷ 108 ∷ []) then w.Label
+    else if sameText s (108 ∷ 97 ∷ 98 ∷ 101 ∷ 108 ∷ 43 ∷ []) then w.LabelSeal
+    else if sameText s (99 ∷ 104 ∷ 105 ∷ 112 ∷ []) then w.Chip
+    else if sameText s (99 ∷ 104 ∷ 105 ∷ 112 ∷ 43 ∷ []) then w.ChipSeal
+    else if sameText s (100 ∷ 114 ∷ 97 ∷ 119 ∷ 115 ∷ []) then w.Draws
+    else bareWord s
+
+-- the word at place n of a line, which holds no blank, with what follows
+unfoldable pub wordAt : List ℕ → ℕ → Said
+wordAt s n =
+    if eqb n (length s) then record { word = w.Empty; rest = n }
+    else if eqb (getD s n 0) 35 then record { word = w.Comment; rest = length s }
+    else record { word = wordOf (take (leading solid (drop n s)) (drop n s)); rest = n + leading solid (drop n s) }
+
+-- the first word of a line and the place behind it; a `#` opens a comment
+unfoldable pub firstWord : List ℕ → Said
+firstWord s = wordAt s (leading blank s)
+
+-- nothing but blanks, or blanks and a comment behind them
+unfoldable pub bareText : List ℕ → Bool
+bareText s =
+    if eqb (leading blank s) (length s) then true
+    else not (eqb (leading blank s) 0) && eqb (getD s (leading blank s) 0) 35

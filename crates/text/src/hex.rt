@@ -1,9 +1,10 @@
 // Bytes as hex digits, written to standard output, and back.
 ghost use mathlib.Core.Path.{_≡_};
-ghost use Prim.Native.Nat.{_+_, _<_, _≤_};
-ghost use lib.ListN.{length};
+ghost use Prim.Native.Nat.{_+_, _*_, _<_, _≤_};
+ghost use lib.ListN.{length, getD, drop};
+ghost use lib.Seq.{sets};
 ghost use Rattle.text.specs.Hex.{digitOf, valueOf};
-ghost use Rattle.text.specs.Runs.{Counted, Pieced};
+ghost use Rattle.text.specs.Runs.{unread, pieceOf, gapAt, hexOf};
 use crate::print::say;
 use crate::words::is_blank;
 use crate::words::skip_blanks;
@@ -151,7 +152,8 @@ pub fn print_uid(u: [u8; 8]) {
 
 // Reads pairs of hex digits from s to the start of out. Blanks may stand around pairs, and a `#` behind a blank ends the run.
 pub fn read_bytes(s: &[u8], out: &mut [u8]) -> Run
-    ensures { λ r. ⌜ Counted r (length (now (out .exit))) ⌝ }
+    ensures { λ r. ⌜ r ≡ hexOf (length (now (out .entry))) (now (s .entry)) .run ⌝ }
+    ensures { λ r. ⌜ now (out .exit) ≡ sets (now (out .entry)) 0 (hexOf (length (now (out .entry))) (now (s .entry)) .bytes) ⌝ }
 {
     let mut at = skip_blanks(s, 0);
     let mut n = 0;
@@ -172,12 +174,11 @@ pub fn read_bytes(s: &[u8], out: &mut [u8]) -> Run
 // What stands at s[at], which is no blank, where n bytes were read and there is room for `room`.
 fn piece_at(s: &[u8], at: usize, n: usize, room: usize) -> Piece
     requires { ⌜ at < length (now s) ⌝ }
-    requires { ⌜ n ≤ room ⌝ }
-    ensures { λ r. ⌜ Pieced r at n (length (now (s .entry))) room ⌝ }
+    ensures { λ r. ⌜ r ≡ pieceOf room n at (gapAt (now (s .entry)) at) (drop at (now (s .entry))) ⌝ }
 {
     let a = value(s[at]);
     let Nibble::Digit(h) = a else {
-        return Piece::Stop(no_digit(s, at, n, room));
+        return Piece::Stop(no_digit(s, at, n));
     };
     if s.len() - at < 2 {
         return Piece::Stop(Run::Odd(at));
@@ -198,15 +199,15 @@ fn piece_at(s: &[u8], at: usize, n: usize, room: usize) -> Piece
 
 fn joined(h: u8, l: u8) -> u8
     requires { ⌜ (h < 16) × (l < 16) ⌝ }
+    ensures { λ r. ⌜ r ≡ h * 16 + l ⌝ }
 {
     h * 16 + l
 }
 
 // What a byte that is no digit says: a `#` behind a blank ends the run.
-fn no_digit(s: &[u8], at: usize, n: usize, room: usize) -> Run
+fn no_digit(s: &[u8], at: usize, n: usize) -> Run
     requires { ⌜ at < length (now s) ⌝ }
-    requires { ⌜ n ≤ room ⌝ }
-    ensures { λ r. ⌜ Counted r room ⌝ }
+    ensures { λ r. ⌜ r ≡ unread n at (gapAt (now (s .entry)) at) (getD (now (s .entry)) at 0) ⌝ }
 {
     if s[at] != b'#' {
         return Run::Bad(at);

@@ -5,8 +5,7 @@
 ghost use Prim.Native.Nat.{_≤_};
 ghost use lib.ListN.{length};
 ghost use Rattle.io.specs.Counts.{Counts};
-ghost use Rattle.text.specs.Lines.{Inside};
-ghost use Rattle.text.specs.Words.{Behind};
+ghost use Rattle.text.specs.Lines.{Inside, Behind};
 
 // Where the reading stands: buf[start..end] was read and not handed out; `done`: the input has ended.
 pub struct Source {

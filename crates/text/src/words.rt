@@ -1,7 +1,8 @@
 // The first word of an event line. Words are parted by blanks: spaces and tabs.
-ghost use Prim.Native.Nat.{_≤_};
-ghost use lib.ListN.{length};
-ghost use Rattle.text.specs.Words.{Behind};
+ghost use mathlib.Core.Path.{_≡_};
+ghost use Prim.Native.Nat.{_+_, _≤_};
+ghost use lib.ListN.{length, drop};
+ghost use Rattle.text.specs.Words.{blank, solid, leading, sameText, bareWord, wordOf, firstWord, bareText};
 
 // The first word of a line: Empty where it has only blanks, Comment where its first byte but blanks is `#`. LabelSeal and ChipSeal are the words
 // with a `+`: the check sum is to be added.
@@ -25,7 +26,9 @@ pub struct Said {
     pub rest: usize,
 }
 
-pub fn is_blank(c: u8) -> bool {
+pub fn is_blank(c: u8) -> bool
+    ensures { λ r. ⌜ r ≡ blank c ⌝ }
+{
     if c == b' ' {
         return true;
     }
@@ -35,7 +38,7 @@ pub fn is_blank(c: u8) -> bool {
 // The first place from `from` on that holds no blank, or s's length.
 pub fn skip_blanks(s: &[u8], from: usize) -> usize
     requires { ⌜ from ≤ length (now s) ⌝ }
-    ensures { λ r. ⌜ Behind from r (length (now (s .entry))) ⌝ }
+    ensures { λ r. ⌜ r ≡ from + leading blank (drop from (now (s .entry))) ⌝ }
 {
     let mut i = from;
     while i < s.len() {
@@ -50,7 +53,7 @@ pub fn skip_blanks(s: &[u8], from: usize) -> usize
 // The first place from `from` on that holds a blank, or s's length.
 fn word_end(s: &[u8], from: usize) -> usize
     requires { ⌜ from ≤ length (now s) ⌝ }
-    ensures { λ r. ⌜ Behind from r (length (now (s .entry))) ⌝ }
+    ensures { λ r. ⌜ r ≡ from + leading solid (drop from (now (s .entry))) ⌝ }
 {
     let mut i = from;
     while i < s.len() {
@@ -62,7 +65,9 @@ fn word_end(s: &[u8], from: usize) -> usize
     i
 }
 
-fn same(a: &[u8], b: &[u8]) -> bool {
+fn same(a: &[u8], b: &[u8]) -> bool
+    ensures { λ r. ⌜ r ≡ sameText (now (a .entry)) (now (b .entry)) ⌝ }
+{
     if a.len() != b.len() {
         return false;
     }
@@ -76,7 +81,25 @@ fn same(a: &[u8], b: &[u8]) -> bool {
     true
 }
 
-fn named(s: &[u8]) -> Word {
+// A word that takes nothing.
+fn bare_word(s: &[u8]) -> Word
+    ensures { λ r. ⌜ r ≡ bareWord (now (s .entry)) ⌝ }
+{
+    if same(s, b"off") {
+        return Word::Off;
+    }
+    if same(s, b"on") {
+        return Word::On;
+    }
+    if same(s, b"eof") {
+        return Word::Eof;
+    }
+    Word::Unknown
+}
+
+fn named(s: &[u8]) -> Word
+    ensures { λ r. ⌜ r ≡ wordOf (now (s .entry)) ⌝ }
+{
     if same(s, b"label") {
         return Word::Label;
     }
@@ -92,20 +115,11 @@ fn named(s: &[u8]) -> Word {
     if same(s, b"draws") {
         return Word::Draws;
     }
-    if same(s, b"off") {
-        return Word::Off;
-    }
-    if same(s, b"on") {
-        return Word::On;
-    }
-    if same(s, b"eof") {
-        return Word::Eof;
-    }
-    Word::Unknown
+    bare_word(s)
 }
 
 pub fn first_word(line: &[u8]) -> Said
-    ensures { λ r. ⌜ r .rest ≤ length (now (line .entry)) ⌝ }
+    ensures { λ r. ⌜ r ≡ firstWord (now (line .entry)) ⌝ }
 {
     let from = skip_blanks(line, 0);
     if from == line.len() {
@@ -129,7 +143,9 @@ pub fn first_word(line: &[u8]) -> Said
 }
 
 // Whether s has nothing but blanks from `from` on, or blanks and a comment behind them.
-pub fn is_blank_rest(s: &[u8], from: usize) -> bool {
+pub fn is_blank_rest(s: &[u8], from: usize) -> bool
+    ensures { λ r. ⌜ r ≡ bareText (drop from (now (s .entry))) ⌝ }
+{
     if s.len() <= from {
         return true;
     }

@@ -1,5 +1,5 @@
 -- The count of a run is within the room that it was read to. Assumes nothing.
-use Rattle.text.proofs.Counts.{counted-bytes}
+use Rattle.text.proofs.Runs.{hex-inside}
 use borrow.Author.Needs.{needs}
 use Rattle.text_test.proofs.bytes.Statement.{statement}
 use Rattle.text_test.proofs.bytes.Tie as tie
@@ -32,7 +32,7 @@ part-print-bytes-start : tie.Need-part-print-bytes-start
 part-print-bytes-start c = search needs
 
 part-print-bytes-end : tie.Need-part-print-bytes-end
-part-print-bytes-end c = search (needs, counted-bytes)
+part-print-bytes-end c = search (needs, hex-inside)
 
 print-bytes-requires : tie.Need-print-bytes-requires
 print-bytes-requires c κs = search needs

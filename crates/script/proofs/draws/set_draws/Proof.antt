@@ -1,40 +1,46 @@
--- The place goes up to the length, which stays. Assumes nothing.
-use lib.ListN.{length}
-use mathlib.Core.Path.{_≡_}
-use Prim.Native.Nat.{_-_}
+-- The draws still to be set, from the place reached on, lead to the same end. Assumes nothing.
 use borrow.Author.Needs.{needs}
+use denote.Ref.{now}
+use lib.ListN.{length, length-set, drop}
+use lib.Seq.{sets}
+use mathlib.Core.Path.{_≡_, refl, sym, _∙_}
+use native.Mathlib.Omega.{arith}
+use Prim.Native.Nat.{_-_, _≤_, _<_}
+use Rattle.script.specs.Lines.{padded}
+use Rattle.script.proofs.Pads.{pad-start, pad-one, pad-none}
 use Rattle.script.proofs.draws.set_draws.Statement.{statement}
 use Rattle.script.proofs.draws.set_draws.Tie as tie
 
 abbrev Inv-loop : tie.InvT-loop
-Inv-loop draws₀ bytes i₀ draws i = length draws ≡ length draws₀
+Inv-loop draws₀ bytes i₀ draws i =
+    (length draws ≡ length draws₀) × (i ≤ length draws₀) × (sets draws i (padded (length draws₀ - i) (drop i bytes)) ≡ padded (length draws₀) bytes)
 
 abbrev μ-loop : tie.MeasureT-loop
 μ-loop draws₀ bytes i₀ draws i = length draws₀ - i
 
 loop-holds : tie.Need-loop-holds Inv-loop μ-loop
-loop-holds c = search needs
-
-byte-at-requires : tie.Need-byte-at-requires Inv-loop μ-loop
-byte-at-requires c κs = search needs
-
-slice-write-draws : tie.Need-slice-write-draws Inv-loop μ-loop
-slice-write-draws c = search needs
-
-add-i : tie.Need-add-i Inv-loop μ-loop
-add-i c = search needs
-
-loop-less : tie.Need-loop-less Inv-loop μ-loop
-loop-less c = search needs
+loop-holds c = let a = c .before .before .args in (refl, omega arith, pad-start (now (a .draws)) (now (a .bytes)))
 
 loop-again : tie.Need-loop-again Inv-loop μ-loop
-loop-again c = search needs
-
-same-length : tie.Need-same-length Inv-loop μ-loop
-same-length c = search needs
+loop-again c =
+    let a = c .before .before .before .before .before .args in
+    let l = c .before .before in
+    let v = l .loop .inv in
+    let z = c .before .loop-test .taken in
+    let h : l .loop .i < length (now (a .draws)) = rw (sym (v .0)) z in
+    (
+      length-set (l .loop .draws) (l .loop .i) (c .byte-at .result) ∙ v .0,
+      omega arith,
+      pad-one _ _ (now (a .bytes)) (length (now (a .draws))) (l .loop .i) _ h (c .byte-at .ensures) (v .2),
+    )
 
 returns : tie.Need-returns Inv-loop μ-loop
-returns c = search needs
+returns c =
+    let a = c .before .before .before .before .args in
+    let l = c .before in
+    let z = c .loop-test .left in
+    let h : length (now (a .draws)) ≤ l .loop .i = rw (sym (l .loop .inv .0)) z in
+    pad-none _ _ (now (a .bytes)) (length (now (a .draws))) (l .loop .i) h (l .loop .inv .2)
 
 pub set-draws-spec : {M : Type 1} → statement M
 set-draws-spec =
@@ -43,10 +49,10 @@ set-draws-spec =
     Inv-loop
     μ-loop
     loop-holds
-    byte-at-requires
-    slice-write-draws
-    add-i
-    loop-less
+    (λ c κs. search needs)
+    (λ c. search needs)
+    (λ c. search needs)
+    (λ c. search needs)
     loop-again
-    same-length
+    (λ c. search needs)
     returns)

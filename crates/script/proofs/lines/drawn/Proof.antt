@@ -1,8 +1,60 @@
--- The count of a run is within the room that it was read to. Assumes nothing.
-use Rattle.text.proofs.Counts.{counted-bytes}
+-- Each way a run can end is a law of Asks; a place in a run is one in the line. Assumes nothing.
 use borrow.Author.Needs.{needs}
+use denote.Ref.{now}
+use mathlib.Core.Path.{ap, _∙_}
+use native.Mathlib.Omega.{arith}
+use lib.ListN.{length, take, drop, length-drop}
+use Prim.Native.Nat.{_-_}
+use Rattle.text.proofs.Runs.{hex-inside, hex-bad, hex-odd}
+use Rattle.script.proofs.Asks.{from-there, drawn-set, drawn-bad, drawn-odd, drawn-full}
 use Rattle.script.proofs.lines.drawn.Statement.{statement}
 use Rattle.script.proofs.lines.drawn.Tie as tie
+
+part-set-draws-end : tie.Need-part-set-draws-end
+part-set-draws-end c =
+    let o = c .before .before .before .before .before .before .before in
+    let a = o .before .before .before .before .before .before .args in
+    hex-inside (now (a .bytes)) _ (take (length (now (a .line)) - a .rest) (drop (a .rest) (now (a .line)))) _ _ (o .read-bytes .ensures .0) (o .read-bytes .ensures .1) (c .before .before .before .run .given .1)
+
+column-requires : tie.Need-column-requires
+column-requires c κs =
+    let o = c .before .before .before .before .before in
+    let a = o .before .before .before .before .before .before .args in
+    let i = hex-bad _ _ _ (o .read-bytes .ensures .0) _ (c .before .run2 .given .1) in
+    let l = ap length (from-there (now (a .line)) (a .rest)) ∙ length-drop (a .rest) (now (a .line)) in
+    omega arith
+
+column-requires-2 : tie.Need-column-requires-2
+column-requires-2 c κs =
+    let o = c .before .before .before .before .before in
+    let a = o .before .before .before .before .before .before .args in
+    let i = hex-odd _ _ _ (o .read-bytes .ensures .0) _ (c .before .run3 .given .1) in
+    let l = ap length (from-there (now (a .line)) (a .rest)) ∙ length-drop (a .rest) (now (a .line)) in
+    omega arith
+
+returns : tie.Need-returns
+returns c =
+    let o = c .before .before .before .before .before .before .before .before .before .before .before in
+    let a = o .before .before .before .before .before .before .args in
+    drawn-set (a .rest) (drop (a .rest) (now (a .line))) (now (a .bytes)) _ _ (from-there (now (a .line)) (a .rest)) _ (o .read-bytes .ensures .0) (o .read-bytes .ensures .1) (now (a .draws)) _ _ (c .before .before .before .before .before .before .before .run .given .1) (c .before .before .set-draws .ensures)
+
+returns-2 : tie.Need-returns-2
+returns-2 c =
+    let o = c .before .before .before .before .before .before in
+    let a = o .before .before .before .before .before .before .args in
+    drawn-bad (a .rest) (drop (a .rest) (now (a .line))) (now (a .bytes)) _ _ (from-there (now (a .line)) (a .rest)) _ (o .read-bytes .ensures .0) (o .read-bytes .ensures .1) (now (a .draws)) _ _ (c .before .before .run2 .given .1) (c .column .ensures)
+
+returns-3 : tie.Need-returns-3
+returns-3 c =
+    let o = c .before .before .before .before .before .before in
+    let a = o .before .before .before .before .before .before .args in
+    drawn-odd (a .rest) (drop (a .rest) (now (a .line))) (now (a .bytes)) _ _ (from-there (now (a .line)) (a .rest)) _ (o .read-bytes .ensures .0) (o .read-bytes .ensures .1) (now (a .draws)) _ _ (c .before .before .run3 .given .1) (c .column2 .ensures)
+
+returns-4 : tie.Need-returns-4
+returns-4 c =
+    let o = c .before .before .before .before in
+    let a = o .before .before .before .before .before .before .args in
+    drawn-full (a .rest) (drop (a .rest) (now (a .line))) (now (a .bytes)) _ _ (from-there (now (a .line)) (a .rest)) _ (o .read-bytes .ensures .0) (o .read-bytes .ensures .1) (now (a .draws)) (c .enum-told .given .1)
 
 pub drawn-spec : {M : Type 1} → statement M
 drawn-spec =
@@ -15,19 +67,19 @@ drawn-spec =
     (λ c. search needs)
     (λ c. search needs)
     (λ c. search needs)
-    (λ c. search (needs, counted-bytes))
+    part-set-draws-end
     (λ c κs. search needs)
     (λ c. search needs)
-    (λ c κs. search needs)
+    column-requires
     (λ c. search needs)
-    (λ c κs. search needs)
-    (λ c. search needs)
-    (λ c. search needs)
+    column-requires-2
     (λ c. search needs)
     (λ c. search needs)
     (λ c. search needs)
+    returns
     (λ c. search needs)
+    returns-2
     (λ c. search needs)
+    returns-3
     (λ c. search needs)
-    (λ c. search needs)
-    (λ c. search needs))
+    returns-4)

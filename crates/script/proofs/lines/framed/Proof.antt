@@ -1,94 +1,83 @@
--- The count of a run is within the room that it was read to. Assumes nothing.
-use Rattle.text.proofs.Counts.{counted-bytes}
+-- Each way a run can end is a law of Asks; a place in a run is one in the line. Assumes nothing.
 use borrow.Author.Needs.{needs}
+use denote.Ref.{now}
+use mathlib.Core.Path.{ap, _∙_}
+use native.Mathlib.Omega.{arith}
+use lib.ListN.{length, drop, length-drop}
+use Rattle.text.proofs.Runs.{hex-bad, hex-odd}
+use Rattle.script.proofs.Asks.{from-there, framed-whole, framed-summed, framed-bad, framed-odd, framed-full}
 use Rattle.script.proofs.lines.framed.Statement.{statement}
 use Rattle.script.proofs.lines.framed.Tie as tie
 
-sub-read-bytes : tie.Need-sub-read-bytes
-sub-read-bytes c = search needs
-
-part-read-bytes-start : tie.Need-part-read-bytes-start
-part-read-bytes-start c = search needs
-
-part-read-bytes-end : tie.Need-part-read-bytes-end
-part-read-bytes-end c = search needs
-
-read-bytes-requires : tie.Need-read-bytes-requires
-read-bytes-requires c κs = search needs
-
-enum-known-run : tie.Need-enum-known-run
-enum-known-run c = search needs
-
-same-length : tie.Need-same-length
-same-length c = search needs
-
 returns : tie.Need-returns
-returns c = search (needs, counted-bytes)
-
-summed-requires : tie.Need-summed-requires
-summed-requires c κs = search needs
-
-enum-known-run-2 : tie.Need-enum-known-run-2
-enum-known-run-2 c = search needs
+returns c =
+    let o = c .before .before .before .before .before .before in
+    let a = o .before .before .before .before .before .args in
+    framed-whole (a .rest) (drop (a .rest) (now (a .line))) (now (a .bytes)) _ _ (from-there (now (a .line)) (a .rest)) _ (o .read-bytes .ensures .0) (o .read-bytes .ensures .1) (a .number) (a .whole) _ (c .before .before .run .given .1) (c .if1 .taken)
 
 column-requires : tie.Need-column-requires
-column-requires c κs = search needs
-
-enum-known-run-3 : tie.Need-enum-known-run-3
-enum-known-run-3 c = search needs
+column-requires c κs =
+    let o = c .before .before .before .before .before in
+    let a = o .before .before .before .before .before .args in
+    let i = hex-bad _ _ _ (o .read-bytes .ensures .0) _ (c .before .run2 .given .1) in
+    let l = ap length (from-there (now (a .line)) (a .rest)) ∙ length-drop (a .rest) (now (a .line)) in
+    omega arith
 
 column-requires-2 : tie.Need-column-requires-2
-column-requires-2 c κs = search needs
-
-enum-told : tie.Need-enum-told
-enum-told c = search needs
-
-same-length-2 : tie.Need-same-length-2
-same-length-2 c = search needs
+column-requires-2 c κs =
+    let o = c .before .before .before .before .before in
+    let a = o .before .before .before .before .before .args in
+    let i = hex-odd _ _ _ (o .read-bytes .ensures .0) _ (c .before .run3 .given .1) in
+    let l = ap length (from-there (now (a .line)) (a .rest)) ∙ length-drop (a .rest) (now (a .line)) in
+    omega arith
 
 returns-2 : tie.Need-returns-2
-returns-2 c = search needs
-
-same-length-3 : tie.Need-same-length-3
-same-length-3 c = search needs
+returns-2 c =
+    let o = c .before .before .before .before .before .before .before .before .before .before in
+    let a = o .before .before .before .before .before .args in
+    framed-summed (a .rest) (drop (a .rest) (now (a .line))) (now (a .bytes)) _ _ (from-there (now (a .line)) (a .rest)) _ (o .read-bytes .ensures .0) (o .read-bytes .ensures .1) (a .number) (a .whole) _ _ _ (c .before .before .before .before .before .before .run .given .1) (c .before .before .before .before .if1 .left)
+    (c .before .before .summed .ensures .0) (c .before .before .summed .ensures .1)
 
 returns-3 : tie.Need-returns-3
-returns-3 c = search needs
-
-same-length-4 : tie.Need-same-length-4
-same-length-4 c = search needs
+returns-3 c =
+    let o = c .before .before .before .before .before .before in
+    let a = o .before .before .before .before .before .args in
+    framed-bad (a .rest) (drop (a .rest) (now (a .line))) (now (a .bytes)) _ _ (from-there (now (a .line)) (a .rest)) _ (o .read-bytes .ensures .0) (o .read-bytes .ensures .1) (a .number) (a .whole) _ _ (c .before .before .run2 .given .1) (c .column .ensures)
 
 returns-4 : tie.Need-returns-4
-returns-4 c = search needs
-
-same-length-5 : tie.Need-same-length-5
-same-length-5 c = search needs
+returns-4 c =
+    let o = c .before .before .before .before .before .before in
+    let a = o .before .before .before .before .before .args in
+    framed-odd (a .rest) (drop (a .rest) (now (a .line))) (now (a .bytes)) _ _ (from-there (now (a .line)) (a .rest)) _ (o .read-bytes .ensures .0) (o .read-bytes .ensures .1) (a .number) (a .whole) _ _ (c .before .before .run3 .given .1) (c .column2 .ensures)
 
 returns-5 : tie.Need-returns-5
-returns-5 c = search needs
+returns-5 c =
+    let o = c .before .before .before .before in
+    let a = o .before .before .before .before .before .args in
+    framed-full (a .rest) (drop (a .rest) (now (a .line))) (now (a .bytes)) _ _ (from-there (now (a .line)) (a .rest)) _ (o .read-bytes .ensures .0) (o .read-bytes .ensures .1) (a .number) (a .whole) (c .enum-told .given .1)
 
 pub framed-spec : {M : Type 1} → statement M
 framed-spec =
     tie.close
     (tie.spec
-    sub-read-bytes
-    part-read-bytes-start
-    part-read-bytes-end
-    read-bytes-requires
-    enum-known-run
-    same-length
+    (λ c. search needs)
+    (λ c. search needs)
+    (λ c. search needs)
+    (λ c κs. search needs)
+    (λ c. search needs)
+    (λ c. search needs)
     returns
-    summed-requires
-    enum-known-run-2
+    (λ c κs. search needs)
+    (λ c. search needs)
     column-requires
-    enum-known-run-3
+    (λ c. search needs)
     column-requires-2
-    enum-told
-    same-length-2
+    (λ c. search needs)
+    (λ c. search needs)
     returns-2
-    same-length-3
+    (λ c. search needs)
     returns-3
-    same-length-4
+    (λ c. search needs)
     returns-4
-    same-length-5
+    (λ c. search needs)
     returns-5)

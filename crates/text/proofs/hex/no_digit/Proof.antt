@@ -1,42 +1,38 @@
--- The count is within the room. Assumes nothing.
-use Rattle.text.proofs.Counts.{runs}
+-- A `#` behind a blank ends the run, and nothing else does. Assumes nothing.
 use borrow.Author.Needs.{needs}
+use denote.Ref.{now}
+use mathlib.Core.Path.{sym, _∙_}
+use Rattle.text.proofs.Runs.{unread-other, unread-first, unread-gap, unread-tight}
 use Rattle.text.proofs.hex.no_digit.Statement.{statement}
 use Rattle.text.proofs.hex.no_digit.Tie as tie
 
-shared-slice-read-if1 : tie.Need-shared-slice-read-if1
-shared-slice-read-if1 c = search needs
-
 returns : tie.Need-returns
-returns c = search runs
+returns c = let a = c .before .before .before .args in unread-other (now (a .s)) (a .at) (a .n) _ (c .if1 .taken)
 
 returns-2 : tie.Need-returns-2
-returns-2 c = search runs
-
-sub-is-blank : tie.Need-sub-is-blank
-sub-is-blank c = search needs
-
-shared-slice-read-is-blank : tie.Need-shared-slice-read-is-blank
-shared-slice-read-is-blank c = search needs
-
-is-blank-requires : tie.Need-is-blank-requires
-is-blank-requires c κs = search needs
+returns-2 c = let a = c .before .before .before .before .args in unread-first (now (a .s)) (a .at) (a .n) _ (c .before .if1 .left) (c .if2 .taken)
 
 returns-3 : tie.Need-returns-3
-returns-3 c = search runs
+returns-3 c =
+    let a = c .before .before .before .before .before .before .before .args in
+    unread-gap (now (a .s)) (a .at) (a .n) _ (c .before .before .before .before .if1 .left) (c .before .before .before .if2 .left)
+    (sym (c .before .is-blank .ensures) ∙ c .if3 .taken)
 
 returns-4 : tie.Need-returns-4
-returns-4 c = search runs
+returns-4 c =
+    let a = c .before .before .before .before .before .before .before .args in
+    unread-tight (now (a .s)) (a .at) (a .n) _ (c .before .before .before .before .if1 .left) (c .before .before .before .if2 .left)
+    (sym (c .before .is-blank .ensures) ∙ c .if3 .left)
 
 pub no-digit-spec : {M : Type 1} → statement M
 no-digit-spec =
     tie.close
     (tie.spec
-    shared-slice-read-if1
+    (λ c. search needs)
     returns
     returns-2
-    sub-is-blank
-    shared-slice-read-is-blank
-    is-blank-requires
+    (λ c. search needs)
+    (λ c. search needs)
+    (λ c κs. search needs)
     returns-3
     returns-4)

@@ -1,92 +1,81 @@
--- A digit's value is below 16, so that two make a byte. Assumes nothing.
-use Rattle.text.proofs.Hexes.{answered-below}
-use Rattle.text.proofs.Counts.{runs, holds}
-use native.Mathlib.Omega.{arith}
+-- Each way out is a law of Runs; a digit's value is below 16, so that two make a byte. Assumes nothing.
 use borrow.Author.Needs.{needs}
+use denote.Ref.{now}
+use mathlib.Core.Path.{sym, _∙_}
+use Rattle.text.proofs.Hexes.{answered-below}
+use Rattle.text.proofs.Runs.{piece-none, piece-alone, piece-blank, piece-bad, piece-full, piece-byte}
 use Rattle.text.proofs.hex.piece_at.Statement.{statement}
 use Rattle.text.proofs.hex.piece_at.Tie as tie
 
-shared-slice-read-value : tie.Need-shared-slice-read-value
-shared-slice-read-value c = search needs
-
-value-requires : tie.Need-value-requires
-value-requires c κs = search needs
-
-enum-known-a : tie.Need-enum-known-a
-enum-known-a c = search needs
-
-enum-told : tie.Need-enum-told
-enum-told c = search needs
-
-no-digit-requires : tie.Need-no-digit-requires
-no-digit-requires c κs = search needs
-
 returns : tie.Need-returns
-returns c = search runs
-
-sub-if1 : tie.Need-sub-if1
-sub-if1 c = search needs
+returns c =
+    let v = c .before .before .before in
+    let a = v .before .before .before .args in
+    piece-none (now (a .s)) (a .at) (a .n) (a .room) _ (v .value .ensures) (c .before .enum-told .given .1) _ (c .no-digit .ensures)
 
 returns-2 : tie.Need-returns-2
-returns-2 c = search runs
-
-add-c : tie.Need-add-c
-add-c c = search needs
-
-shared-slice-read-c : tie.Need-shared-slice-read-c
-shared-slice-read-c c = search needs
-
-is-blank-requires : tie.Need-is-blank-requires
-is-blank-requires c κs = search needs
+returns-2 c =
+    let v = c .before .before .before .before in
+    let a = v .before .before .before .args in
+    piece-alone (now (a .s)) (a .at) (a .n) (a .room) _ (v .value .ensures) _ (c .before .before .a .given .1) (c .if1 .taken)
 
 returns-3 : tie.Need-returns-3
-returns-3 c = search runs
-
-value-requires-2 : tie.Need-value-requires-2
-value-requires-2 c κs = search needs
-
-enum-known-b : tie.Need-enum-known-b
-enum-known-b c = search needs
-
-enum-told-2 : tie.Need-enum-told-2
-enum-told-2 c = search needs
-
-add-t20 : tie.Need-add-t20
-add-t20 c = search needs
+returns-3 c =
+    let l = c .before .before .before in
+    let v = l .before .before .before .before in
+    let a = v .before .before .before .args in
+    piece-blank (now (a .s)) (a .at) (a .n) (a .room) _ (v .value .ensures) _ (l .before .before .a .given .1) (l .if1 .left)
+    (sym (c .before .is-blank .ensures) ∙ c .if2 .taken)
 
 returns-4 : tie.Need-returns-4
-returns-4 c = search runs
+returns-4 c =
+    let w = c .before .before in
+    let l = w .before .before .before .before in
+    let v = l .before .before .before .before in
+    let a = v .before .before .before .args in
+    piece-bad (now (a .s)) (a .at) (a .n) (a .room) _ (v .value .ensures) _ (l .before .before .a .given .1) (l .if1 .left)
+    (sym (w .before .before .is-blank .ensures) ∙ w .before .if2 .left) _ (w .value2 .ensures) (c .enum-told2 .given .1)
 
 returns-5 : tie.Need-returns-5
-returns-5 c = search runs
-
-joined-requires : tie.Need-joined-requires
-joined-requires c κs = search (needs, answered-below)
+returns-5 c =
+    let w = c .before .before .before .before in
+    let l = w .before .before .before .before in
+    let v = l .before .before .before .before in
+    let a = v .before .before .before .args in
+    piece-full (now (a .s)) (a .at) (a .n) (a .room) _ (v .value .ensures) _ (l .before .before .a .given .1) (l .if1 .left)
+    (sym (w .before .before .is-blank .ensures) ∙ w .before .if2 .left) _ (w .value2 .ensures) _ (c .before .before .b .given .1) (c .if3 .taken)
 
 returns-6 : tie.Need-returns-6
-returns-6 c = holds _ _ _ _ _ (omega arith) (omega arith)
+returns-6 c =
+    let w = c .before .before .before .before .before in
+    let l = w .before .before .before .before in
+    let v = l .before .before .before .before in
+    let a = v .before .before .before .args in
+    piece-byte (now (a .s)) (a .at) (a .n) (a .room) _ (v .value .ensures) _ (l .before .before .a .given .1) (l .if1 .left)
+    (sym (w .before .before .is-blank .ensures) ∙ w .before .if2 .left) _ (w .value2 .ensures) _ _ (c .before .before .before .b .given .1) (c .before .if3 .left)
+    (c .joined .ensures)
 
 pub piece-at-spec : {M : Type 1} → statement M
 piece-at-spec =
     tie.close
     (tie.spec
-    shared-slice-read-value
-    value-requires
-    enum-known-a
-    enum-told
-    no-digit-requires
+    (λ c. search needs)
+    (λ c κs. search needs)
+    (λ c. search needs)
+    (λ c. search needs)
+    (λ c κs. search needs)
     returns
-    sub-if1
+    (λ c. search needs)
     returns-2
-    add-c
-    shared-slice-read-c
-    is-blank-requires
+    (λ c. search needs)
+    (λ c. search needs)
+    (λ c κs. search needs)
     returns-3
-    value-requires-2
-    enum-known-b
-    enum-told-2
-    add-t20
+    (λ c κs. search needs)
+    (λ c. search needs)
+    (λ c. search needs)
+    (λ c. search needs)
     returns-4
     returns-5
-    joined-requires
+    (λ c κs. search (needs, answered-below))
     returns-6)

@@ -1,65 +1,50 @@
--- The bytes so far are within the room, and the place is within the text. Assumes nothing.
+-- What is still to be read, from the place reached on, leads to the same end (`Reads`). Assumes nothing.
 use borrow.Author.Needs.{needs}
-use Rattle.text.proofs.Counts.{runs, byte-room, byte-there}
-use lib.ListN.{length, length-set}
 use native.Mathlib.Omega.{arith}
-use mathlib.Core.Path.{_≡_}
-use Prim.Native.Nat.{_≤_, _-_}
+use lib.ListN.{length}
+use Prim.Native.Nat.{_-_}
+use Rattle.text.proofs.Runs.{Reads, reads-start, reads-end, reads-stop, byte-room, byte-there, reads-byte}
 use Rattle.text.proofs.hex.read_bytes.Statement.{statement}
 use Rattle.text.proofs.hex.read_bytes.Tie as tie
 
 abbrev Inv-loop : tie.InvT-loop
-Inv-loop s out₀ at₀ n₀ out at n = (length out ≡ length out₀) × (n ≤ length out) × (at ≤ length s)
+Inv-loop s out₀ at₀ n₀ out at n = Reads s out₀ out at n
 
 abbrev μ-loop : tie.MeasureT-loop
 μ-loop s out₀ at₀ n₀ out at n = length s - at
 
-skip-blanks-requires : tie.Need-skip-blanks-requires Inv-loop μ-loop
-skip-blanks-requires c κs = search needs
-
 loop-holds : tie.Need-loop-holds Inv-loop μ-loop
-loop-holds c = search needs
-
-piece-at-requires : tie.Need-piece-at-requires Inv-loop μ-loop
-piece-at-requires c κs = search needs
-
-enum-known-p : tie.Need-enum-known-p Inv-loop μ-loop
-enum-known-p c = search needs
-
-same-length : tie.Need-same-length Inv-loop μ-loop
-same-length c = search needs
+loop-holds c = reads-start _ _ _ (c .skip-blanks .ensures)
 
 returns : tie.Need-returns Inv-loop μ-loop
-returns c = search runs
-
-enum-known-p-2 : tie.Need-enum-known-p-2 Inv-loop μ-loop
-enum-known-p-2 c = search needs
+returns c =
+    let p = c .before .before .before in
+    reads-stop _ _ _ _ _ (p .before .before .loop .inv) _ (p .before .loop-test .taken) (p .piece-at .ensures) _ (c .before .p .given .1)
 
 slice-write-out : tie.Need-slice-write-out Inv-loop μ-loop
-slice-write-out c = search (needs, byte-room)
-
-add-n : tie.Need-add-n Inv-loop μ-loop
-add-n c = search needs
-
-add-skip-blanks : tie.Need-add-skip-blanks Inv-loop μ-loop
-add-skip-blanks c = search needs
+slice-write-out c =
+    let p = c .before .before .before in
+    byte-room _ _ _ _ _ (p .before .before .loop .inv) _ (p .before .loop-test .taken) (p .piece-at .ensures) _ (c .before .p2 .given .1)
 
 skip-blanks-requires-2 : tie.Need-skip-blanks-requires-2 Inv-loop μ-loop
-skip-blanks-requires-2 c κs = search (needs, byte-there)
+skip-blanks-requires-2 c κs =
+    let p = c .before .before .before in
+    byte-there _ _ _ _ _ (p .before .before .loop .inv) _ (p .before .loop-test .taken) (p .piece-at .ensures) _ (c .before .p2 .given .1)
 
 loop-less : tie.Need-loop-less Inv-loop μ-loop
-loop-less c = search needs
+loop-less c =
+    let p = c .before .before .before .before in
+    let e = c .skip-blanks2 .ensures in
+    let h = p .before .loop-test .taken in
+    omega arith
 
 loop-again : tie.Need-loop-again Inv-loop μ-loop
 loop-again c =
-    let room = byte-room _ _ _ _ _ _ (c .before .before .before .before .piece-at .ensures) (c .before .before .p2 .given .1) in
-    (search needs, simp length-set (omega (arith, room)), search needs)
-
-same-length-2 : tie.Need-same-length-2 Inv-loop μ-loop
-same-length-2 c = search needs
+    let p = c .before .before .before .before in
+    reads-byte _ _ _ _ _ (p .before .before .loop .inv) _ (p .before .loop-test .taken) (p .piece-at .ensures) _ (c .before .before .p2 .given .1) _ (c .skip-blanks2 .ensures)
 
 returns-2 : tie.Need-returns-2 Inv-loop μ-loop
-returns-2 c = search runs
+returns-2 c = reads-end _ _ _ _ _ (c .before .loop .inv) (c .loop-test .left)
 
 pub read-bytes-spec : {M : Type 1} → statement M
 read-bytes-spec =
@@ -67,18 +52,18 @@ read-bytes-spec =
     (tie.spec
     Inv-loop
     μ-loop
-    skip-blanks-requires
+    (λ c κs. search needs)
     loop-holds
-    piece-at-requires
-    enum-known-p
-    same-length
+    (λ c κs. search needs)
+    (λ c. search needs)
+    (λ c. search needs)
     returns
-    enum-known-p-2
+    (λ c. search needs)
     slice-write-out
-    add-n
-    add-skip-blanks
+    (λ c. search needs)
+    (λ c. search needs)
     skip-blanks-requires-2
     loop-less
     loop-again
-    same-length-2
+    (λ c. search needs)
     returns-2)

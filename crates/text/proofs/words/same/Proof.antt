@@ -1,42 +1,38 @@
--- The two have one length, so that the place of one is a place of the other. Assumes nothing.
+-- What is left of the two is the same exactly when the whole is. Assumes nothing.
 use borrow.Author.Needs.{needs}
-use lib.ListN.{length}
+use lib.ListN.{length, drop}
+use mathlib.Core.Path.{_≡_, refl}
+use denote.Ref.{now}
+use native.Mathlib.Omega.{arith}
 use Prim.Native.Nat.{_-_}
+use Rattle.text.specs.Words.{sameText}
+use Rattle.text.proofs.Sames.{other-length, other-byte, same-byte, same-all}
 use Rattle.text.proofs.words.same.Statement.{statement}
 use Rattle.text.proofs.words.same.Tie as tie
 
 abbrev Inv-loop : tie.InvT-loop
-Inv-loop a b i₀ i = Unit
+Inv-loop a b i₀ i = sameText a b ≡ sameText (drop i a) (drop i b)
 
 abbrev μ-loop : tie.MeasureT-loop
 μ-loop a b i₀ i = length a - i
 
 returns : tie.Need-returns Inv-loop μ-loop
-returns c = search needs
-
-loop-holds : tie.Need-loop-holds Inv-loop μ-loop
-loop-holds c = search needs
-
-shared-slice-read-if2 : tie.Need-shared-slice-read-if2 Inv-loop μ-loop
-shared-slice-read-if2 c = search needs
-
-shared-slice-read-if2-2 : tie.Need-shared-slice-read-if2-2 Inv-loop μ-loop
-shared-slice-read-if2-2 c = search needs
+returns c = let a = c .before .args in other-length (now (a .a)) (now (a .b)) (c .if1 .taken)
 
 returns-2 : tie.Need-returns-2 Inv-loop μ-loop
-returns-2 c = search needs
-
-add-i : tie.Need-add-i Inv-loop μ-loop
-add-i c = search needs
-
-loop-less : tie.Need-loop-less Inv-loop μ-loop
-loop-less c = search needs
+returns-2 c =
+    let a = c .before .before .before .before .before .before .args in
+    let t = c .before .before .before .loop-test .taken in
+    other-byte (now (a .a)) (now (a .b)) _ t (omega arith) (c .if2 .taken) (c .before .before .before .before .loop .inv)
 
 loop-again : tie.Need-loop-again Inv-loop μ-loop
-loop-again c = search needs
+loop-again c =
+    let a = c .before .before .before .before .before .before .args in
+    let t = c .before .before .before .loop-test .taken in
+    same-byte (now (a .a)) (now (a .b)) _ t (omega arith) (c .if2 .left) (c .before .before .before .before .loop .inv)
 
 returns-3 : tie.Need-returns-3 Inv-loop μ-loop
-returns-3 c = search needs
+returns-3 c = let a = c .before .before .before .args in same-all (now (a .a)) (now (a .b)) _ (c .loop-test .left) (omega arith) (c .before .loop .inv)
 
 pub same-spec : {M : Type 1} → statement M
 same-spec =
@@ -45,11 +41,11 @@ same-spec =
     Inv-loop
     μ-loop
     returns
-    loop-holds
-    shared-slice-read-if2
-    shared-slice-read-if2-2
+    (λ c. refl)
+    (λ c. search needs)
+    (λ c. search needs)
     returns-2
-    add-i
-    loop-less
+    (λ c. search needs)
+    (λ c. search needs)
     loop-again
     returns-3)

@@ -1,12 +1,16 @@
--- The loop's place stays between `from` and the length. Assumes nothing.
+-- The place, and what is left from it on, add up to the same end. Assumes nothing.
 use borrow.Author.Needs.{needs}
-use lib.ListN.{length}
-use Prim.Native.Nat.{_≤_, _-_}
+use borrow.Author.Tests.{not-true, not-false}
+use lib.ListN.{length, drop}
+use mathlib.Core.Path.{_≡_, sym, _∙_}
+use Prim.Native.Nat.{_+_, _-_, _≤_}
+use Rattle.text.specs.Words.{blank, leading}
+use Rattle.text.proofs.Leads.{lead-none, lead-stop, lead-go}
 use Rattle.text.proofs.words.skip_blanks.Statement.{statement}
 use Rattle.text.proofs.words.skip_blanks.Tie as tie
 
 abbrev Inv-loop : tie.InvT-loop
-Inv-loop s from i₀ i = (from ≤ i) × (i ≤ length s)
+Inv-loop s from i₀ i = (i ≤ length s) × (i + leading blank (drop i s) ≡ from + leading blank (drop from s))
 
 abbrev μ-loop : tie.MeasureT-loop
 μ-loop s from i₀ i = length s - i
@@ -14,26 +18,18 @@ abbrev μ-loop : tie.MeasureT-loop
 loop-holds : tie.Need-loop-holds Inv-loop μ-loop
 loop-holds c = search needs
 
-shared-slice-read-is-blank : tie.Need-shared-slice-read-is-blank Inv-loop μ-loop
-shared-slice-read-is-blank c = search needs
-
-is-blank-requires : tie.Need-is-blank-requires Inv-loop μ-loop
-is-blank-requires c κs = search needs
-
 returns : tie.Need-returns Inv-loop μ-loop
-returns c = search needs
-
-add-i : tie.Need-add-i Inv-loop μ-loop
-add-i c = search needs
-
-loop-less : tie.Need-loop-less Inv-loop μ-loop
-loop-less c = search needs
+returns c =
+    let l = c .before .before .before .before in
+    lead-stop blank _ _ _ (l .loop .inv .1) (c .before .before .before .loop-test .taken) (sym (c .before .is-blank .ensures) ∙ not-true _ (c .if1 .taken))
 
 loop-again : tie.Need-loop-again Inv-loop μ-loop
-loop-again c = search needs
+loop-again c =
+    let l = c .before .before .before .before in
+    (search needs, lead-go blank _ _ _ (l .loop .inv .1) (c .before .before .before .loop-test .taken) (sym (c .before .is-blank .ensures) ∙ not-false _ (c .if1 .left)))
 
 returns-2 : tie.Need-returns-2 Inv-loop μ-loop
-returns-2 c = search needs
+returns-2 c = lead-none blank _ _ _ (c .before .loop .inv .1) (c .loop-test .left)
 
 pub skip-blanks-spec : {M : Type 1} → statement M
 skip-blanks-spec =
@@ -42,10 +38,10 @@ skip-blanks-spec =
     Inv-loop
     μ-loop
     loop-holds
-    shared-slice-read-is-blank
-    is-blank-requires
+    (λ c. search needs)
+    (λ c κs. search needs)
     returns
-    add-i
-    loop-less
+    (λ c. search needs)
+    (λ c. search needs)
     loop-again
     returns-2)

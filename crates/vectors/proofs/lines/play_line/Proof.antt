@@ -1,5 +1,5 @@
 -- The bytes of a line are within the buffer that they were read to. Assumes nothing.
-use Rattle.script.proofs.Holds.{held-play}
+use Rattle.script.proofs.Asks.{frame-inside}
 use borrow.Author.Needs.{needs}
 use Rattle.vectors.proofs.lines.play_line.Statement.{statement}
 use Rattle.vectors.proofs.lines.play_line.Tie as tie
@@ -16,7 +16,7 @@ play-line-spec =
     (λ c κs. search needs)
     (λ c. search needs)
     (λ c. search needs)
-    (λ c. search (needs, held-play))
+    (λ c. search (needs, frame-inside))
     (λ c κs. search needs)
     (λ c. search needs)
     (λ c. search needs)

@@ -1,5 +1,5 @@
 -- The count of a run is within the room that it was read to. Assumes nothing.
-use Rattle.text.proofs.Counts.{counted-bytes}
+use Rattle.text.proofs.Runs.{hex-inside}
 use borrow.Author.Needs.{needs}
 use Rattle.vectors.proofs.lines.read_hex.Statement.{statement}
 use Rattle.vectors.proofs.lines.read_hex.Tie as tie
@@ -14,7 +14,7 @@ read-hex-spec =
     (λ c. search needs)
     (λ c. search needs)
     (λ c. search needs)
-    (λ c. search (needs, counted-bytes))
+    (λ c. search (needs, hex-inside))
     (λ c. search needs)
     (λ c. search needs)
     (λ c. search needs)
