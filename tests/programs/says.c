@@ -52,8 +52,20 @@ static void fail(const char *what)
     fprintf(stderr, "%s: %s\n", what, strerror(errno));
 }
 
-/* The rack file of this name; where it cannot be read, at is null and the
- * cause has been told. */
+/* A rack, from an input of this name; where it cannot be read, at is null and
+ * the cause has been told. */
+static struct bytes read_from(FILE *in, const char *what)
+{
+    errno = 0;
+    struct bytes rack = read_whole(in);
+    if (ferror(in)) {
+        fail(what);
+        free(rack.at);
+        rack.at = NULL;
+    }
+    return rack;
+}
+
 static struct bytes read_rack(const char *path)
 {
     struct bytes rack = { NULL, 0 };
@@ -62,15 +74,23 @@ static struct bytes read_rack(const char *path)
         fail(path);
         return rack;
     }
-    errno = 0;
-    rack = read_whole(in);
-    if (ferror(in)) {
-        fail(path);
-        free(rack.at);
-        rack.at = NULL;
-    }
+    rack = read_from(in, path);
     fclose(in);
     return rack;
+}
+
+/* The events; a line that a read which failed cut short is left out, and the
+ * cause has been told. */
+static struct bytes read_events(void)
+{
+    errno = 0;
+    struct bytes input = read_whole(stdin);
+    if (ferror(stdin)) {
+        fail("input");
+        while (input.len > 0 && input.at[input.len - 1] != '\n')
+            input.len--;
+    }
+    return input;
 }
 
 static void write_next(const char *path, struct bytes rack)
@@ -292,7 +312,7 @@ static int play(const char *path, const char *next)
     struct player p = { read_rack(path), { 0 }, 0, 0 };
     if (p.rack.at == NULL)
         return 0;
-    struct bytes input = read_whole(stdin);
+    struct bytes input = read_events();
     play_lines(&p, input);
     if (next != NULL)
         write_next(next, p.rack);
@@ -387,7 +407,9 @@ static int walk(void)
 {
     uint8_t list[REF_UID * REF_TAGS_MOST];
     struct ref_walked walked;
-    struct bytes rack = read_whole(stdin);
+    struct bytes rack = read_from(stdin, "input");
+    if (rack.at == NULL)
+        return 0;
     ref_walk(rack.at, rack.len, 0, 0, list, sizeof list, &walked);
     if (walked.number != 0)
         printf("refused %u\n", (unsigned)walked.number);

@@ -1,4 +1,5 @@
-// A file that an argument names, read whole.
+// A file that an argument names, or standard input, read whole.
+use libc::STDIN_FILENO;
 ghost use Prim.Native.Nat.{_≤_};
 ghost use lib.ListN.{length};
 ghost use Rattle.io.specs.Counts.{Counts};
@@ -10,7 +11,7 @@ pub struct Loaded {
 }
 
 // One read to the start of part.
-fn read_part(fd: i32, part: &mut [u8]) -> Loaded
+pub fn read_part(fd: i32, part: &mut [u8]) -> Loaded
     ensures { λ r. ⌜ Counts (r .len) (now (part .exit)) ⌝ }
 {
     let got = libc::read(fd, part);
@@ -73,4 +74,15 @@ pub fn load(i: usize, name: &[u8], out: &mut [u8]) -> Loaded
         };
     }
     load_path(&path[0..n], out)
+}
+
+// Reads standard input to the front of out. What fails is written to standard error.
+pub fn load_input(out: &mut [u8]) -> Loaded
+    ensures { λ r. ⌜ r .len ≤ length (now (out .exit)) ⌝ }
+{
+    let loaded = read_all(STDIN_FILENO, out);
+    if !loaded.fine {
+        os::fail(b"input");
+    }
+    loaded
 }

@@ -2,9 +2,9 @@
 //
 // A line is what stands before a newline, or before the end of the input, without a carriage return right before its newline. A line of as many
 // bytes as the buffer has, or more, is too long, and is passed over to its newline.
+use crate::file::read_part;
 ghost use Prim.Native.Nat.{_≤_};
 ghost use lib.ListN.{length};
-ghost use Rattle.io.specs.Counts.{Counts};
 ghost use Rattle.text.specs.Lines.{Inside, Behind};
 
 // Where the reading stands: buf[start..end] was read and not handed out; `done`: the input has ended.
@@ -73,7 +73,7 @@ fn other(kind: Kind, source: Source) -> Got
 }
 
 // The next line of a source that was used with this buffer only, which has room for a byte. It reads until a line is whole or the input has ended; a
-// read that fails ends the input.
+// read that fails ends the input, and its cause is written to standard error.
 pub fn next(s: Source, buf: &mut [u8]) -> Got
     ensures { λ r. ⌜ Inside r (length (now (buf .exit))) ⌝ }
 {
@@ -175,12 +175,22 @@ fn to_front(buf: &mut [u8], start: usize, end: usize) -> usize
     n
 }
 
-// One read to the start of part: how many bytes it put there.
-fn read_part(fd: i32, part: &mut [u8]) -> usize
-    ensures { λ r. ⌜ Counts r (now (part .exit)) ⌝ }
+// Writes why a read failed, where it did.
+fn tell(fine: bool) {
+    if !fine {
+        os::fail(b"input");
+    }
+}
+
+// No more comes behind buf[0..to]: the input has ended, or a read has failed. What stood before a read that failed is no line.
+fn stopped(fd: i32, to: usize, fine: bool) -> Got
+    ensures { λ r. ⌜ Inside r to ⌝ }
 {
-    let got = libc::read(fd, part);
-    io::count(got, part)
+    tell(fine);
+    if !fine {
+        return other(Kind::End, ended(fd));
+    }
+    last(fd, to)
 }
 
 // Reads behind buf's first n bytes, which have no newline, until a line is whole.
@@ -191,10 +201,10 @@ fn fill(fd: i32, n: usize, buf: &mut [u8]) -> Got
     let mut end = n;
     while end < buf.len() {
         let more = read_part(fd, &mut buf[end..]);
-        if more == 0 {
-            return last(fd, end);
+        if more.len == 0 {
+            return stopped(fd, end, more.fine);
         }
-        let to = end + more;
+        let to = end + more.len;
         let at = newline(buf, end, to);
         if at < to {
             return line(buf, 0, at, holding(fd, at + 1, to));
@@ -211,8 +221,10 @@ fn pass(fd: i32, buf: &mut [u8]) -> Got
     let mut left: u64 = 4611686018427387904;
     while 0 < left {
         left -= 1;
-        let n = read_part(fd, buf);
+        let part = read_part(fd, buf);
+        let n = part.len;
         if n == 0 {
+            tell(part.fine);
             return other(Kind::Long, ended(fd));
         }
         let at = newline(buf, 0, n);

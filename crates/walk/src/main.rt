@@ -1,14 +1,18 @@
 // walk: reads a rack from standard input and walks it with no AFI. Prints the rounds, then the UIDs, high byte first; or what refuses it.
 use ask::label::Family;
 use inventory::walk::walk;
-use libc::STDIN_FILENO;
 use script::replies::print_uids;
+use text::file::load_input;
 use text::print::line_end;
 use text::print::say_number;
 
 fn main() {
     let mut tags = [0u8; 65537];
-    let len = io::read_full(STDIN_FILENO, &mut tags);
+    let loaded = load_input(&mut tags);
+    if !loaded.fine {
+        return;
+    }
+    let len = loaded.len;
     let mut list = [0u8; 512];
     let walked = walk(&mut tags[0..len], Family::Any, &mut list);
     if walked.number != 0 {

@@ -27,8 +27,8 @@ part-read-part-end c = search needs
 read-part-requires : tie.Need-read-part-requires Inv-loop μ-loop
 read-part-requires c κs = search needs
 
-last-requires : tie.Need-last-requires Inv-loop μ-loop
-last-requires c κs = search needs
+stopped-requires : tie.Need-stopped-requires Inv-loop μ-loop
+stopped-requires c κs = search needs
 
 same-length : tie.Need-same-length Inv-loop μ-loop
 same-length c = search needs
@@ -83,7 +83,7 @@ fill-spec =
     part-read-part-start
     part-read-part-end
     read-part-requires
-    last-requires
+    stopped-requires
     same-length
     returns
     add-to
