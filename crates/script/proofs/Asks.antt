@@ -89,8 +89,7 @@ module _ (rest : ℕ) (behind bytes b text : List ℕ) (q : text ≡ behind) (r 
     pub framed-summed : (n : ℕ) (st : Step) (c : List ℕ) → r ≡ Bytes n → whole ≡ false → st ≡ frameStep false number (length b) n → c ≡ sealed n b
         → (st ≡ framedStep number whole rest behind (length bytes)) × (c ≡ framedBytes whole behind bytes)
     framed-summed n st c g o e f =
-        let l = ap length k ∙ length-sets bytes 0 (hexOf (length bytes) text .bytes) in
-        (
+        let l = ap length k ∙ length-sets bytes 0 (hexOf (length bytes) text .bytes) in (
           e ∙ ap (λ (m : ℕ). frameStep false number m n) l ∙ sym (step-is (Bytes n) g ∙ ap (λ (w : Bool). frameStep w number (length bytes) n) o),
           f ∙ sym (bytes-are (Bytes n) g ∙ ap (λ (w : Bool). frameBytes w (Bytes n) b) o),
         )

@@ -171,11 +171,11 @@ module _ (s : List ℕ) (room : ℕ) where
       let w = byte-whole room n at (gapAt s at) (drop at s) b (sym f ∙ g) in
       let z : at + 2 - 1 ≡ at + 1 = omega arith in
       let k : gapAt s (at + 2) ≡ false =
-          behind s (at + 2) n (omega arith) false (ap (λ (j : ℕ). blank (getD s j 0)) z ∙ ap blank (sym (getD-drop at s 1 0)) ∙ w .tight) in
+      behind s (at + 2) n (omega arith) false (ap (λ (j : ℕ). blank (getD s j 0)) z ∙ ap blank (sym (getD-drop at s 1 0)) ∙ w .tight) in
       let i : suc n ≡ n + 1 = omega arith in
       let y : readHex room (suc n) (at + 2) false (drop (at + 2) s) ≡ rest (n + 1) to =
-          ap (λ (j : ℕ). readHex room j (at + 2) false (drop (at + 2) s)) i ∙ ap (λ (o : Bool). readHex room (n + 1) (at + 2) o (drop (at + 2) s)) (sym k)
-          ∙ pass-all (n + 1) (at + 2) (leading blank (drop (at + 2) s)) refl ∙ ap (rest (n + 1)) (sym q) in
+      ap (λ (j : ℕ). readHex room j (at + 2) false (drop (at + 2) s)) i ∙ ap (λ (o : Bool). readHex room (n + 1) (at + 2) o (drop (at + 2) s)) (sym k)
+      ∙ pass-all (n + 1) (at + 2) (leading blank (drop (at + 2) s)) refl ∙ ap (rest (n + 1)) (sym q) in
       at-piece n at h e ∙ ap (λ (x : Piece). onward x (readHex room (suc n) (at + 2) false (drop (at + 2) s))) (sym f ∙ g) ∙ ap (onward (Byte b)) y
 
 -- ---- the loop of `read_bytes`: n bytes are written, and `at` holds no blank

@@ -16,10 +16,9 @@ returns-2 : tie.Need-returns-2
 returns-2 c =
     let s = c .before .before .before .before .before .before .before .before .before in
     let o = s .before .before .before .before .before .before in
-    let a = o .before .before .before .before .before .before .before .args in
-    (
+    let a = o .before .before .before .before .before .before .before .args in (
       event-played (now (a .line)) (now (a .draws)) (now (a .bytes)) (now (a .tags)) _ (o .step-of .ensures .0) _ _ _ _ _ (s .step .given .1) (o .step-of .ensures .1 .0)
-      (o .step-of .ensures .1 .1) (c .before .before .play .ensures),
+          (o .step-of .ensures .1 .1) (c .before .before .play .ensures),
       o .step-of .ensures .1 .0,
     )
 

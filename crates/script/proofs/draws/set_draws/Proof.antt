@@ -27,8 +27,7 @@ loop-again c =
     let l = c .before .before in
     let v = l .loop .inv in
     let z = c .before .loop-test .taken in
-    let h : l .loop .i < length (now (a .draws)) = rw (sym (v .0)) z in
-    (
+    let h : l .loop .i < length (now (a .draws)) = rw (sym (v .0)) z in (
       length-set (l .loop .draws) (l .loop .i) (c .byte-at .result) ∙ v .0,
       omega arith,
       pad-one _ _ (now (a .bytes)) (length (now (a .draws))) (l .loop .i) _ h (c .byte-at .ensures) (v .2),
