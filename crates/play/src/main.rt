@@ -16,7 +16,7 @@ use text::print::number;
 use text::print::say;
 use text::print::say_number;
 ghost use mathlib.Core.Path.{_≡_};
-ghost use Rattle.script.specs.Lines.{stepOf, played, lineRack};
+ghost use Rattle.script.specs.Lines.{stepOf, played, lineRack, eventsBy};
 
 // How many lines and events there were.
 struct Tally {
@@ -60,8 +60,10 @@ fn play_line(
     draws: &mut [u8],
     bytes: &mut [u8],
 ) -> u64
+    ensures { λ r. ⌜ r ≡ eventsBy (stepOf (now (line .entry)) (now (draws .entry)) (now (bytes .entry)) .step) events ⌝ }
     ensures { λ r. ⌜ now (tags .exit) ≡ lineRack (now (line .entry)) (now (draws .entry)) (now (bytes .entry)) (now (tags .entry)) ⌝ }
     ensures { λ r. ⌜ now (draws .exit) ≡ stepOf (now (line .entry)) (now (draws .entry)) (now (bytes .entry)) .draws ⌝ }
+    ensures { λ r. ⌜ now (bytes .exit) ≡ stepOf (now (line .entry)) (now (draws .entry)) (now (bytes .entry)) .bytes ⌝ }
 {
     let step = step_of(line, draws, bytes);
     match step {

@@ -8,12 +8,12 @@ use native.Mathlib.Omega.{arith}
 use borrow.Author.Tests.{lt-ltb, le-ltb, ltb-false}
 use lib.Dec.{ltb}
 use lib.ListN.{length, take, drop, length-drop}
-use lib.Seq.{sets, length-sets, take-all, take-append-seam}
+use lib.Seq.{sets, length-sets, take-all}
 use Rattle.frame.specs.Number.{bytesOf}
 use Rattle.frame.specs.CheckSum.{crcOf}
 use Rattle.frame.proofs.Bools.{if-either, if-both}
-use Rattle.frame.proofs.Puts.{sets-front}
-use Rattle.text.proofs.Runs.{hex-bytes, hex-fits}
+use Rattle.frame.proofs.Stores.{part-on}
+use Rattle.text.proofs.Runs.{run-within}
 use Rattle.text.specs.Words.{firstWord, bareText}
 use Rattle.text.specs.Runs.{hexOf}
 use Rattle.text.specs.declared.words.Word.{Word}
@@ -21,11 +21,10 @@ use Rattle.text.specs.declared.words.Word.the-variants as w
 use Rattle.text.specs.declared.words.Said.{Said}
 use Rattle.text.specs.declared.hex.Run.{Run}
 use Rattle.text.specs.declared.hex.Run.the-variants.{Bytes, Bad, Odd, Full}
-use Rattle.script.specs.declared.lines.Trouble.{Trouble}
 use Rattle.script.specs.declared.lines.Trouble.the-variants as t
 use Rattle.script.specs.declared.lines.Step.{Step}
 use Rattle.script.specs.declared.lines.Step.the-variants as s
-use Rattle.script.specs.Lines.{padded, bareStep, runStep, readTo, frameStep, framedStep, sealed, frameBytes, framedBytes, drawnStep, drawsBy, drawnDraws, Asked, askedBy, stepOf, played, rackBy, lineRack}
+use Rattle.script.specs.Lines.{padded, bareStep, runStep, readTo, frameStep, framedStep, sealed, frameBytes, framedBytes, drawnStep, drawsBy, drawnDraws, Asked, askedBy, stepOf, played, rackBy, lineRack, eventsBy}
 
 -- ---- words that take nothing
 
@@ -54,17 +53,9 @@ sum-done number n m b c h e f = (ap (s.Play number) e ∙ sym (rw (le-ltb (lengt
 pub from-there : (line : List ℕ) (rest : ℕ) → take (length line - rest) (drop rest line) ≡ drop rest line
 from-there line rest = take-all (length line - rest) (drop rest line) (let e = length-drop rest line in omega arith)
 
-none-bad : (whole : Bool) (i : ℕ) (b : List ℕ) → frameBytes whole (Bad i) b ≡ b
-none-bad true i b = refl
-none-bad false i b = refl
-
-none-odd : (whole : Bool) (i : ℕ) (b : List ℕ) → frameBytes whole (Odd i) b ≡ b
-none-odd true i b = refl
-none-odd false i b = refl
-
-none-full : (whole : Bool) (b : List ℕ) → frameBytes whole Full b ≡ b
-none-full true b = refl
-none-full false b = refl
+-- a place in it is one in the line, and so is its column
+pub column-inside : (line : List ℕ) (rest i : ℕ) → rest ≤ length line → i < length (take (length line - rest) (drop rest line)) → rest + i + 1 ≤ length line
+column-inside line rest i h k = let l = ap length (from-there line rest) ∙ length-drop rest line in omega arith
 
 module _ (rest : ℕ) (behind bytes b text : List ℕ) (q : text ≡ behind) (r : Run) (h : r ≡ hexOf (length bytes) text .run) (k : b ≡ sets bytes 0 (hexOf (length bytes) text .bytes)) where
   ended : (x : Run) → r ≡ x → hexOf (length bytes) behind .run ≡ x
@@ -82,26 +73,19 @@ module _ (rest : ℕ) (behind bytes b text : List ℕ) (q : text ≡ behind) (r 
     unfolding framedBytes
     bytes-are x g = ap (λ (y : Run). frameBytes whole y (readTo behind bytes)) (ended x g) ∙ ap (frameBytes whole x) (sym read)
 
+    -- however the run ended
+    pub framed-by : (x : Run) (st : Step) (c : List ℕ) → r ≡ x → st ≡ runStep (frameStep whole number (length bytes)) rest x → c ≡ frameBytes whole x b
+        → (st ≡ framedStep number whole rest behind (length bytes)) × (c ≡ framedBytes whole behind bytes)
+    framed-by x st c g e f = (e ∙ sym (step-is x g), f ∙ sym (bytes-are x g))
+
     pub framed-whole : (n : ℕ) → r ≡ Bytes n → whole ≡ true → (s.Play number n ≡ framedStep number whole rest behind (length bytes)) × (b ≡ framedBytes whole behind bytes)
-    framed-whole n g o =
-        (sym (step-is (Bytes n) g ∙ ap (λ (w : Bool). frameStep w number (length bytes) n) o), sym (bytes-are (Bytes n) g ∙ ap (λ (w : Bool). frameBytes w (Bytes n) b) o))
+    framed-whole n g o = framed-by (Bytes n) (s.Play number n) b g (rw o refl) (rw o refl)
 
     pub framed-summed : (n : ℕ) (st : Step) (c : List ℕ) → r ≡ Bytes n → whole ≡ false → st ≡ frameStep false number (length b) n → c ≡ sealed n b
         → (st ≡ framedStep number whole rest behind (length bytes)) × (c ≡ framedBytes whole behind bytes)
     framed-summed n st c g o e f =
-        let l = ap length k ∙ length-sets bytes 0 (hexOf (length bytes) text .bytes) in (
-          e ∙ ap (λ (m : ℕ). frameStep false number m n) l ∙ sym (step-is (Bytes n) g ∙ ap (λ (w : Bool). frameStep w number (length bytes) n) o),
-          f ∙ sym (bytes-are (Bytes n) g ∙ ap (λ (w : Bool). frameBytes w (Bytes n) b) o),
-        )
-
-    pub framed-bad : (i c : ℕ) → r ≡ Bad i → c ≡ rest + i + 1 → (s.Wrong (t.Bad c) ≡ framedStep number whole rest behind (length bytes)) × (b ≡ framedBytes whole behind bytes)
-    framed-bad i c g e = (ap (λ (x : ℕ). s.Wrong (t.Bad x)) e ∙ sym (step-is (Bad i) g), sym (bytes-are (Bad i) g ∙ none-bad whole i b))
-
-    pub framed-odd : (i c : ℕ) → r ≡ Odd i → c ≡ rest + i + 1 → (s.Wrong (t.Odd c) ≡ framedStep number whole rest behind (length bytes)) × (b ≡ framedBytes whole behind bytes)
-    framed-odd i c g e = (ap (λ (x : ℕ). s.Wrong (t.Odd x)) e ∙ sym (step-is (Odd i) g), sym (bytes-are (Odd i) g ∙ none-odd whole i b))
-
-    pub framed-full : r ≡ Full → (s.Wrong t.Full ≡ framedStep number whole rest behind (length bytes)) × (b ≡ framedBytes whole behind bytes)
-    framed-full g = (sym (step-is Full g), sym (bytes-are Full g ∙ none-full whole b))
+        let l = ap length k ∙ length-sets bytes 0 (hexOf (length bytes) text .bytes) in
+        framed-by (Bytes n) st c g (rw o (e ∙ ap (λ (m : ℕ). frameStep false number m n) l)) (rw o f)
 
   module _ (draws : List ℕ) where
     draws-step : (x : Run) → r ≡ x → drawnStep rest behind (length bytes) ≡ runStep (λ n. s.Nothing) rest x
@@ -112,28 +96,22 @@ module _ (rest : ℕ) (behind bytes b text : List ℕ) (q : text ≡ behind) (r 
     unfolding drawnDraws
     draws-are x g = ap (λ (y : Run). drawsBy y (hexOf (length bytes) behind .bytes) draws) (ended x g)
 
+    -- however the run ended
+    pub drawn-by : (x : Run) (st : Step) (d : List ℕ) → r ≡ x → st ≡ runStep (λ n. s.Nothing) rest x → d ≡ drawsBy x (hexOf (length bytes) behind .bytes) draws
+        → (st ≡ drawnStep rest behind (length bytes)) × ((d ≡ drawnDraws behind (length bytes) draws) × (b ≡ readTo behind bytes))
+    drawn-by x st d g e f = (e ∙ sym (draws-step x g), (f ∙ sym (draws-are x g), read))
+
     -- the first n bytes of the buffer are those read
     front : (n : ℕ) → r ≡ Bytes n → take n b ≡ hexOf (length bytes) behind .bytes
     front n g =
-        let l = hex-bytes (length bytes) text r h n g in
-        let m = hex-fits (length bytes) text r h n g in
-        rw (k, sets-front (hexOf (length bytes) text .bytes) bytes (omega arith), l) (take-append-seam (hexOf (length bytes) text .bytes) _)
-        ∙ ap (λ (u : List ℕ). hexOf (length bytes) u .bytes) q
+        let l = run-within (length bytes) text r (Bytes n) h g in
+        let z : 0 + length (hexOf (length bytes) text .bytes) ≤ length bytes = omega arith in
+        rw (k, l .0) (part-on bytes (hexOf (length bytes) text .bytes) 0 z) ∙ ap (λ (u : List ℕ). hexOf (length bytes) u .bytes) q
 
     pub drawn-set : (n : ℕ) (d : List ℕ) → r ≡ Bytes n → d ≡ padded (length draws) (take (n - 0) b)
         → (s.Nothing ≡ drawnStep rest behind (length bytes)) × ((d ≡ drawnDraws behind (length bytes) draws) × (b ≡ readTo behind bytes))
-    drawn-set n d g e = (sym (draws-step (Bytes n) g), (e ∙ ap (λ (m : ℕ). padded (length draws) (take m b)) (sub-zero n) ∙ ap (padded (length draws)) (front n g) ∙ sym (draws-are (Bytes n) g), read))
-
-    pub drawn-bad : (i c : ℕ) → r ≡ Bad i → c ≡ rest + i + 1
-        → (s.Wrong (t.Bad c) ≡ drawnStep rest behind (length bytes)) × ((draws ≡ drawnDraws behind (length bytes) draws) × (b ≡ readTo behind bytes))
-    drawn-bad i c g e = (ap (λ (x : ℕ). s.Wrong (t.Bad x)) e ∙ sym (draws-step (Bad i) g), (sym (draws-are (Bad i) g), read))
-
-    pub drawn-odd : (i c : ℕ) → r ≡ Odd i → c ≡ rest + i + 1
-        → (s.Wrong (t.Odd c) ≡ drawnStep rest behind (length bytes)) × ((draws ≡ drawnDraws behind (length bytes) draws) × (b ≡ readTo behind bytes))
-    drawn-odd i c g e = (ap (λ (x : ℕ). s.Wrong (t.Odd x)) e ∙ sym (draws-step (Odd i) g), (sym (draws-are (Odd i) g), read))
-
-    pub drawn-full : r ≡ Full → (s.Wrong t.Full ≡ drawnStep rest behind (length bytes)) × ((draws ≡ drawnDraws behind (length bytes) draws) × (b ≡ readTo behind bytes))
-    drawn-full g = (sym (draws-step Full g), (sym (draws-are Full g), read))
+    drawn-set n d g e =
+        drawn-by (Bytes n) s.Nothing d g refl (e ∙ ap (λ (m : ℕ). padded (length draws) (take m b)) (sub-zero n) ∙ ap (padded (length draws)) (front n g))
 
 -- ---- a line, by its first word
 
@@ -173,7 +151,7 @@ module _ (number rest : ℕ) (behind bytes : List ℕ) where
 
   by-run : (whole : Bool) (x : Run) → hexOf (length bytes) behind .run ≡ x
       → Held (runStep (frameStep whole number (length bytes)) rest x) (length (frameBytes whole x (readTo behind bytes)))
-  by-run true (Bytes n) e = let h = hex-fits (length bytes) behind _ refl n e in let l = same in omega arith
+  by-run true (Bytes n) e = let h = run-within (length bytes) behind _ (Bytes n) refl e in let l = same in omega arith
   by-run false (Bytes n) e = subst (λ (m : ℕ). Held (frameStep false number m n) (length (sealed n (readTo behind bytes)))) same (sum-held number n (readTo behind bytes))
   by-run whole (Bad i) e = tt
   by-run whole (Odd i) e = tt
@@ -219,14 +197,16 @@ module _ (line draws bytes tags : List ℕ) (r : Step) (e : r ≡ stepOf line dr
   unfolding lineRack
   left x g = ap (λ (y : Step). rackBy y (stepOf line draws bytes .draws) (stepOf line draws bytes .bytes) tags) (sym e ∙ g)
 
-  pub nothing-played : r ≡ s.Nothing → tags ≡ lineRack line draws bytes tags
-  nothing-played g = sym (left s.Nothing g)
+  pub line-leaves : (x : Step) (tags₁ : List ℕ) → r ≡ x → tags₁ ≡ rackBy x (stepOf line draws bytes .draws) (stepOf line draws bytes .bytes) tags
+      → tags₁ ≡ lineRack line draws bytes tags
+  line-leaves x tags₁ g k = k ∙ sym (left x g)
 
-  pub wrong-played : (trouble : Trouble) → r ≡ s.Wrong trouble → tags ≡ lineRack line draws bytes tags
-  wrong-played trouble g = sym (left (s.Wrong trouble) g)
-
-  pub event-played : (number n : ℕ) (d b tags₁ : List ℕ) → r ≡ s.Play number n → d ≡ stepOf line draws bytes .draws → b ≡ stepOf line draws bytes .bytes
+  pub event-leaves : (number n : ℕ) (d b tags₁ : List ℕ) → r ≡ s.Play number n → d ≡ stepOf line draws bytes .draws → b ≡ stepOf line draws bytes .bytes
       → tags₁ ≡ played tags number (take (n - 0) b) d → tags₁ ≡ lineRack line draws bytes tags
-  event-played number n d b tags₁ g f h k =
-      k ∙ ap (λ (m : ℕ). played tags number (take m b) d) (sub-zero n) ∙ ap (λ (x : List ℕ). played tags number (take n x) d) h
-      ∙ ap (played tags number (take n (stepOf line draws bytes .bytes))) f ∙ sym (left (s.Play number n) g)
+  event-leaves number n d b tags₁ g f h k =
+      line-leaves (s.Play number n) tags₁ g
+      (k ∙ ap (λ (m : ℕ). played tags number (take m b) d) (sub-zero n) ∙ ap (λ (x : List ℕ). played tags number (take n x) d) h
+      ∙ ap (played tags number (take n (stepOf line draws bytes .bytes))) f)
+
+  pub events-counted : (x : Step) (m events : ℕ) → r ≡ x → m ≡ eventsBy x events → m ≡ eventsBy (stepOf line draws bytes .step) events
+  events-counted x m events g k = k ∙ ap (λ (y : Step). eventsBy y events) (sym g ∙ e)

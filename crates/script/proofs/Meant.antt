@@ -7,10 +7,11 @@ use native.Mathlib.Nat.{zero-add}
 use native.Mathlib.Omega.{arith}
 use borrow.Author.Tests.{le-ltb}
 use lib.ListN.{length, take, drop}
-use lib.Seq.{sets, length-sets, take-append-seam, drop-append-seam}
+use lib.Seq.{sets, length-sets, drop-append-seam}
 use Rattle.frame.specs.Number.{Bytes, bytesOf}
 use Rattle.frame.specs.CheckSum as frame
-use Rattle.frame.proofs.Puts.{sets-append, sets-front}
+use Rattle.frame.proofs.Puts.{sets-append}
+use Rattle.frame.proofs.Stores.{part-on}
 use Rattle.text.specs.Words.{blank, solid, leading, wordOf}
 use Rattle.text.specs.Hex.{hexText}
 use Rattle.text.specs.Runs.{Read, hexOf}
@@ -59,7 +60,7 @@ module _ (f draws bytes : List ℕ) (small : Bytes f) (fits : length f ≤ lengt
     unfolding sealed frame.framedWith
     summed =
         let l : length (sets bytes 0 f) ≡ length bytes = length-sets bytes 0 f in
-        let t : take (length f) (sets bytes 0 f) ≡ f = ap (take (length f)) (sets-front f bytes fits) ∙ take-append-seam f (drop (length f) bytes) in
+        let t : take (length f) (sets bytes 0 f) ≡ f = part-on bytes f 0 (omega arith) in
         rw (le-ltb (length (sets bytes 0 f)) (length f + 2) (omega arith), t)
         (sym (sets-append f (bytesOf 2 (frame.crcOf f)) bytes 0 ∙ ap (λ (k : ℕ). sets (sets bytes 0 f) k (bytesOf 2 (frame.crcOf f))) (zero-add (length f))))
 

@@ -1,7 +1,7 @@
 -- What an event line asks: its first word, and behind it hex, blanks or a comment. Assumes nothing.
 use mathlib.Core.Bool.{Bool, true, false}
 use mathlib.Core.List.{List, [], _∷_}
-use Prim.Native.Nat.{ℕ, zero, suc, _+_}
+use Prim.Native.Nat.{ℕ, zero, suc, _+_, _%_, _^_}
 use lib.Dec.{ltb}
 use lib.ListN.{length, getD, take, drop, replicate}
 use lib.Seq.{sets}
@@ -61,11 +61,10 @@ unfoldable pub sealed : ℕ → List ℕ → List ℕ
 sealed n b = if ltb (length b) (n + 2) then b else sets b n (bytesOf 2 (crcOf (take n b)))
 
 abbrev pub frameBytes : Bool → Run → List ℕ → List ℕ
-frameBytes true run b = b
-frameBytes false (Bytes n) b = sealed n b
-frameBytes false (Bad i) b = b
-frameBytes false (Odd i) b = b
-frameBytes false Full b = b
+frameBytes whole (Bytes n) b = if whole then b else sealed n b
+frameBytes whole (Bad i) b = b
+frameBytes whole (Odd i) b = b
+frameBytes whole Full b = b
 
 unfoldable pub framedBytes : Bool → List ℕ → List ℕ → List ℕ
 framedBytes whole behind bytes = frameBytes whole (hexOf (length bytes) behind .run) (readTo behind bytes)
@@ -127,3 +126,9 @@ unfoldable pub lineRack : List ℕ → List ℕ → List ℕ → List ℕ → Li
 lineRack line draws bytes tags =
     let x = stepOf line draws bytes in
     rackBy (x .step) (x .draws) (x .bytes) tags
+
+-- how many events have come: they count modulo 2 ^ 64
+abbrev pub eventsBy : Step → ℕ → ℕ
+eventsBy s.Nothing events = events
+eventsBy (s.Play number n) events = (events + 1) % 2 ^ 64
+eventsBy (s.Wrong trouble) events = events

@@ -156,6 +156,16 @@ module _ (s : List ℕ) (room : ℕ) where
       ∙ ap (λ (u : List ℕ). onward (pieceOf room n at (gapAt s at) u) (readHex room (suc n) (at + 2) false (drop 1 (drop (suc at) s)))) (sym d)
       ∙ ap (λ (u : List ℕ). onward (pieceOf room n at (gapAt s at) (drop at s)) (readHex room (suc n) (at + 2) false u)) (drop-drop 1 (suc at) s ∙ ap (λ (k : ℕ). drop k s) z)
 
+  -- what follows a byte, whose second digit is no blank
+  on-from : (n at to : ℕ) → blank (getD s (at + 1) 0) ≡ false → to ≡ at + 2 + leading blank (drop (at + 2) s)
+      → readHex room (suc n) (at + 2) false (drop (at + 2) s) ≡ rest (n + 1) to
+  on-from n at to e q =
+      let z : at + 2 - 1 ≡ at + 1 = omega arith in
+      let i : suc n ≡ n + 1 = omega arith in
+      let k = behind s (at + 2) n (omega arith) false (ap (λ (j : ℕ). blank (getD s j 0)) z ∙ e) in
+      ap (λ (j : ℕ). readHex room j (at + 2) false (drop (at + 2) s)) i ∙ ap (λ (o : Bool). readHex room (n + 1) (at + 2) o (drop (at + 2) s)) (sym k)
+      ∙ pass-all (n + 1) (at + 2) (leading blank (drop (at + 2) s)) refl ∙ ap (rest (n + 1)) (sym q)
+
   -- the run ends at a piece, or at the text's end
   pub at-stop : (n at : ℕ) (p : Piece) (r : Run) → at < length s → blank (getD s at 0) ≡ false → p ≡ pieceOf room n at (gapAt s at) (drop at s) → p ≡ Stop r
       → rest n at ≡ stop r
@@ -169,14 +179,8 @@ module _ (s : List ℕ) (room : ℕ) where
       → to ≡ at + 2 + leading blank (drop (at + 2) s) → rest n at ≡ record { bytes = b ∷ rest (n + 1) to .bytes; run = rest (n + 1) to .run }
   at-byte n at to p b h e f g q =
       let w = byte-whole room n at (gapAt s at) (drop at s) b (sym f ∙ g) in
-      let z : at + 2 - 1 ≡ at + 1 = omega arith in
-      let k : gapAt s (at + 2) ≡ false =
-      behind s (at + 2) n (omega arith) false (ap (λ (j : ℕ). blank (getD s j 0)) z ∙ ap blank (sym (getD-drop at s 1 0)) ∙ w .tight) in
-      let i : suc n ≡ n + 1 = omega arith in
-      let y : readHex room (suc n) (at + 2) false (drop (at + 2) s) ≡ rest (n + 1) to =
-      ap (λ (j : ℕ). readHex room j (at + 2) false (drop (at + 2) s)) i ∙ ap (λ (o : Bool). readHex room (n + 1) (at + 2) o (drop (at + 2) s)) (sym k)
-      ∙ pass-all (n + 1) (at + 2) (leading blank (drop (at + 2) s)) refl ∙ ap (rest (n + 1)) (sym q) in
-      at-piece n at h e ∙ ap (λ (x : Piece). onward x (readHex room (suc n) (at + 2) false (drop (at + 2) s))) (sym f ∙ g) ∙ ap (onward (Byte b)) y
+      at-piece n at h e ∙ ap (λ (x : Piece). onward x (readHex room (suc n) (at + 2) false (drop (at + 2) s))) (sym f ∙ g)
+      ∙ ap (onward (Byte b)) (on-from n at to (ap blank (sym (getD-drop at s 1 0)) ∙ w .tight) q)
 
 -- ---- the loop of `read_bytes`: n bytes are written, and `at` holds no blank
 
@@ -295,27 +299,14 @@ hex-within : (room : ℕ) (s : List ℕ) → Within (hexOf room s .run) (length 
 unfolding hexOf
 hex-within room s = read-within room 0 0 false s _ _ (omega arith) (omega arith) (omega arith)
 
-module _ (room : ℕ) (s : List ℕ) (r : Run) (e : r ≡ hexOf room s .run) where
-  ended : (x : Run) → r ≡ x → Within x (length (hexOf room s .bytes)) room (length s)
-  ended x q = subst (λ (y : Run). Within y (length (hexOf room s .bytes)) room (length s)) (sym e ∙ q) (hex-within room s)
-
-  pub hex-bytes : (n : ℕ) → r ≡ Bytes n → n ≡ length (hexOf room s .bytes)
-  hex-bytes n q = ended (Bytes n) q .0
-
-  pub hex-fits : (n : ℕ) → r ≡ Bytes n → n ≤ room
-  hex-fits n q = let x = ended (Bytes n) q in omega arith
-
-  pub hex-bad : (i : ℕ) → r ≡ Bad i → i < length s
-  hex-bad i q = ended (Bad i) q
-
-  pub hex-odd : (i : ℕ) → r ≡ Odd i → i < length s
-  hex-odd i q = ended (Odd i) q
+pub run-within : (room : ℕ) (s : List ℕ) (r x : Run) → r ≡ hexOf room s .run → r ≡ x → Within x (length (hexOf room s .bytes)) room (length s)
+run-within room s r x e q = subst (λ (y : Run). Within y (length (hexOf room s .bytes)) room (length s)) (sym e ∙ q) (hex-within room s)
 
 -- the bytes of a run are within the buffer that it was read to
 pub hex-inside : (out out₁ s : List ℕ) (r : Run) (n : ℕ) → r ≡ hexOf (length out) s .run → out₁ ≡ sets out 0 (hexOf (length out) s .bytes) → r ≡ Bytes n → n ≤ length out₁
 hex-inside out out₁ s r n e f q =
     let l = ap length f ∙ length-sets out 0 (hexOf (length out) s .bytes) in
-    let h = hex-fits (length out) s r e n q in
+    let h = run-within (length out) s r (Bytes n) e q in
     omega arith
 
 -- ---- what the programs write is read back

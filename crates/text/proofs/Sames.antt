@@ -35,10 +35,10 @@ module _ (a b : List ℕ) (i : ℕ) where
 
 -- ---- a ladder of tests whose values calls have answered: this test holds; or it does not, and what follows says the same
 
-pub here : {A : Type 0} (r t : Bool) (x y : A) → r ≡ t → r ≡ true → x ≡ (if t then x else y)
-here r t x y e h = rw (sym e ∙ h) refl
+pub rung-here : {A : Type 0} (r t : Bool) (x y : A) → r ≡ t → r ≡ true → x ≡ (if t then x else y)
+rung-here r t x y e h = rw (sym e ∙ h) refl
 
-pub on : {A : Type 0} (r t : Bool) (x y z : A) → r ≡ t → r ≡ false → z ≡ y → z ≡ (if t then x else y)
-on r t x y z e h k = rw (sym e ∙ h) k
+pub rung-on : {A : Type 0} (r t : Bool) (x y z : A) → r ≡ t → r ≡ false → z ≡ y → z ≡ (if t then x else y)
+rung-on r t x y z e h k = rw (sym e ∙ h) k
 
-pub ruleset ladder = (needs, here, on)
+pub ruleset ladder = (needs, rung-here, rung-on)
