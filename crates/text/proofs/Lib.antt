@@ -3,4 +3,5 @@ pub mod Leads
 pub mod Sames
 pub mod Firsts
 pub mod Hexes
+pub mod Texts
 pub mod Runs

@@ -309,7 +309,7 @@ hex-inside out out₁ s r n e f q =
     let h = run-within (length out) s r (Bytes n) e q in
     omega arith
 
--- ---- what the programs write is read back
+-- ---- bytes in hex are read back
 
 solid-digit : (n : ℕ) → n < 16 → blank (digitOf n) ≡ false
 unfolding blank digitOf

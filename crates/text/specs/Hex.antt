@@ -14,7 +14,7 @@ digitOf n = cond (ltb n 10) (48 + n) (cond (ltb n 16) (55 + n) 63)
 unfoldable pub valueOf : ℕ → Nibble
 valueOf c = cond (ltb c 48) Other (cond (ltb c 58) (Digit (c - 48)) (cond (ltb c 65) Other (cond (ltb c 71) (Digit (c - 55)) (cond (ltb c 97) Other (cond (ltb c 103) (Digit (c - 87)) Other)))))
 
--- bytes as the programs write them: a space before each, two capitals
+-- bytes in hex: a space before each, two capitals
 abbrev pub hexText : List ℕ → List ℕ
 hexText [] = []
 hexText (b ∷ bs) = 32 ∷ digitOf (b / 16) ∷ digitOf (b % 16) ∷ hexText bs

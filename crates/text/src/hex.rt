@@ -1,9 +1,10 @@
 // Bytes as hex digits, written to standard output, and back.
 ghost use mathlib.Core.Path.{_≡_};
-ghost use Prim.Native.Nat.{_+_, _*_, _<_, _≤_};
+ghost use mathlib.Core.List.{[], _∷_};
+ghost use Prim.Native.Nat.{_+_, _*_, _/_, _%_, _<_, _≤_};
 ghost use lib.ListN.{length, getD, drop};
 ghost use lib.Seq.{sets};
-ghost use Rattle.text.specs.Hex.{digitOf, valueOf};
+ghost use Rattle.text.specs.Hex.{digitOf, valueOf, hexText};
 ghost use Rattle.text.specs.Runs.{unread, pieceOf, gapAt, hexOf};
 use crate::print::say;
 use crate::words::is_blank;
@@ -68,11 +69,15 @@ pub fn value(c: u8) -> Nibble
     Nibble::Other
 }
 
-fn high(b: u8) -> u8 {
+fn high(b: u8) -> u8
+    ensures { λ r. ⌜ r ≡ digitOf (b / 16) ⌝ }
+{
     digit(b / 16)
 }
 
-fn low(b: u8) -> u8 {
+fn low(b: u8) -> u8
+    ensures { λ r. ⌜ r ≡ digitOf (b % 16) ⌝ }
+{
     digit(b % 16)
 }
 
@@ -107,22 +112,23 @@ pub fn print_bytes(s: &[u8]) {
 }
 
 // At most 32 bytes, a space before each.
-fn print_part(s: &[u8]) {
+fn print_part(s: &[u8])
+    requires { ⌜ length (now s) ≤ 32 ⌝ }
+{
     let mut text = [0u8; 96];
     let n = lay(s, &mut text);
     say(&text[0..n]);
 }
 
-// The text of s's bytes, a space before each, as far as there is room.
+// The text of s's bytes, a space before each, to the front of text.
 fn lay(s: &[u8], text: &mut [u8]) -> usize
-    ensures { λ r. ⌜ r ≤ length (now (text .exit)) ⌝ }
+    requires { ⌜ 3 * length (now s) ≤ length (now text) ⌝ }
+    ensures { λ r. ⌜ r ≡ 3 * length (now (s .entry)) ⌝ }
+    ensures { λ r. ⌜ now (text .exit) ≡ sets (now (text .entry)) 0 (hexText (now (s .entry))) ⌝ }
 {
     let mut i = 0;
     let mut n = 0;
     while i < s.len() {
-        if text.len() - n < 3 {
-            return n;
-        }
         put(text, n, s[i]);
         n += 3;
         i += 1;
@@ -132,6 +138,7 @@ fn lay(s: &[u8], text: &mut [u8]) -> usize
 
 fn put(text: &mut [u8], n: usize, b: u8)
     requires { ⌜ n + 3 ≤ length (now text) ⌝ }
+    ensures { λ r. ⌜ now (text .exit) ≡ sets (now (text .entry)) n (hexText (b ∷ [])) ⌝ }
 {
     text[n] = b' ';
     text[n + 1] = high(b);

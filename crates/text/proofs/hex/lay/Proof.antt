@@ -1,52 +1,48 @@
--- The buffer keeps its length, and the text laid so far is within it. Assumes nothing.
+-- The bytes still to be laid, from the place reached on, lead to the same end; three bytes of text each. Assumes nothing.
 use borrow.Author.Needs.{needs}
-use lib.ListN.{length}
-use mathlib.Core.Path.{_≡_}
-use Prim.Native.Nat.{_≤_, _-_}
+use denote.Ref.{now}
+use lib.ListN.{length, getD, drop}
+use lib.Seq.{sets, length-sets}
+use mathlib.Core.Path.{_≡_, refl, ap, _∙_}
+use mathlib.Core.List.{[], _∷_}
+use native.Mathlib.Omega.{arith}
+use Prim.Native.Nat.{_*_, _-_, _≤_}
+use Rattle.text.specs.Hex.{hexText}
+use Rattle.text.proofs.Texts.{lay-one, lay-none}
 use Rattle.text.proofs.hex.lay.Statement.{statement}
 use Rattle.text.proofs.hex.lay.Tie as tie
 
 abbrev Inv-loop : tie.InvT-loop
-Inv-loop s text₀ i₀ n₀ text i n = (length text ≡ length text₀) × (n ≤ length text)
+Inv-loop s text₀ i₀ n₀ text i n =
+    (length text ≡ length text₀) × (n ≡ 3 * i) × (i ≤ length s) × (sets text n (hexText (drop i s)) ≡ sets text₀ 0 (hexText s))
 
 abbrev μ-loop : tie.MeasureT-loop
 μ-loop s text₀ i₀ n₀ text i n = length s - i
 
 loop-holds : tie.Need-loop-holds Inv-loop μ-loop
-loop-holds c = search needs
-
-sub-if1 : tie.Need-sub-if1 Inv-loop μ-loop
-sub-if1 c = search needs
-
-same-length : tie.Need-same-length Inv-loop μ-loop
-same-length c = search needs
-
-returns : tie.Need-returns Inv-loop μ-loop
-returns c = search needs
-
-shared-slice-read-put : tie.Need-shared-slice-read-put Inv-loop μ-loop
-shared-slice-read-put c = search needs
+loop-holds c = (refl, omega arith, omega arith, refl)
 
 put-requires : tie.Need-put-requires Inv-loop μ-loop
-put-requires c κs = search needs
-
-add-n : tie.Need-add-n Inv-loop μ-loop
-add-n c = search needs
-
-add-i : tie.Need-add-i Inv-loop μ-loop
-add-i c = search needs
-
-loop-less : tie.Need-loop-less Inv-loop μ-loop
-loop-less c = search needs
+put-requires c κs =
+    let v = c .before .before .before .loop .inv in
+    let p = c .before .before .before .before .before .before .pre in
+    omega arith
 
 loop-again : tie.Need-loop-again Inv-loop μ-loop
-loop-again c = search needs
+loop-again c =
+    let p = c .before .before in
+    let l = p .before .before .before .before in
+    let v = l .loop .inv in
+    let s = now (l .before .before .before .args .s) in
+    let h = p .before .before .before .loop-test .taken in
+    let e = length-sets (l .loop .text) (l .loop .n) (hexText (getD s (l .loop .i) 0 ∷ [])) in
+    (ap length (p .put .ensures) ∙ e ∙ v .0, omega arith, omega arith, lay-one s (l .loop .text) _ _ (l .loop .i) (l .loop .n) h (p .put .ensures) (v .3))
 
-same-length-2 : tie.Need-same-length-2 Inv-loop μ-loop
-same-length-2 c = search needs
-
-returns-2 : tie.Need-returns-2 Inv-loop μ-loop
-returns-2 c = search needs
+returns : tie.Need-returns Inv-loop μ-loop
+returns c =
+    let v = c .before .loop .inv in
+    let s = now (c .before .before .before .before .args .s) in
+    (omega arith, lay-none s _ _ _ _ (c .loop-test .left) (v .3))
 
 pub lay-spec : {M : Type 1} → statement M
 lay-spec =
@@ -55,14 +51,11 @@ lay-spec =
     Inv-loop
     μ-loop
     loop-holds
-    sub-if1
-    same-length
-    returns
-    shared-slice-read-put
+    (λ c. search needs)
     put-requires
-    add-n
-    add-i
-    loop-less
+    (λ c. search needs)
+    (λ c. search needs)
+    (λ c. search needs)
     loop-again
-    same-length-2
-    returns-2)
+    (λ c. search needs)
+    returns)

@@ -1,7 +1,10 @@
 -- Each turn prints 32 bytes more, and the last what is left. Assumes nothing.
 use borrow.Author.Needs.{needs}
 use lib.ListN.{length}
-use Prim.Native.Nat.{_-_}
+use denote.Ref.{now}
+use native.Mathlib.Omega.{arith}
+use Prim.Native.Nat.{_+_, _-_}
+use Rattle.frame.proofs.Stores.{length-part}
 use Rattle.text.proofs.hex.print_bytes.Statement.{statement}
 use Rattle.text.proofs.hex.print_bytes.Tie as tie
 
@@ -36,7 +39,11 @@ part-print-part-end : tie.Need-part-print-part-end Inv-loop μ-loop
 part-print-part-end c = search needs
 
 print-part-requires : tie.Need-print-part-requires Inv-loop μ-loop
-print-part-requires c κs = search needs
+print-part-requires c κs =
+    let s = now (c .before .before .before .before .before .before .before .before .args .s) in
+    let l = c .before .before .before .loop .at in
+    let e = length-part l (length s - l) s (omega arith) in
+    omega arith
 
 returns-2 : tie.Need-returns-2 Inv-loop μ-loop
 returns-2 c = search needs
@@ -54,7 +61,11 @@ part-print-part-end-2 : tie.Need-part-print-part-end-2 Inv-loop μ-loop
 part-print-part-end-2 c = search needs
 
 print-part-requires-2 : tie.Need-print-part-requires-2 Inv-loop μ-loop
-print-part-requires-2 c κs = search needs
+print-part-requires-2 c κs =
+    let s = now (c .before .before .before .before .before .before .before .before .args .s) in
+    let l = c .before .before .before .loop .at in
+    let e = length-part l (l + 32 - l) s (omega arith) in
+    omega arith
 
 loop-less : tie.Need-loop-less Inv-loop μ-loop
 loop-less c = search needs
