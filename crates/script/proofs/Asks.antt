@@ -26,16 +26,6 @@ use Rattle.script.specs.declared.lines.Step.{Step}
 use Rattle.script.specs.declared.lines.Step.the-variants as s
 use Rattle.script.specs.Lines.{padded, bareStep, runStep, readTo, frameStep, framedStep, sealed, frameBytes, framedBytes, drawnStep, drawsBy, drawnDraws, Asked, askedBy, stepOf, played, rackBy, lineRack, eventsBy}
 
--- ---- words that take nothing
-
-pub bare-yes : (r : Bool) (number : ℕ) (behind : List ℕ) → r ≡ bareText behind → r ≡ true → s.Play number 0 ≡ bareStep number behind
-unfolding bareStep
-bare-yes r number behind e h = sym (rw (sym e ∙ h) refl)
-
-pub bare-no : (r : Bool) (number : ℕ) (behind : List ℕ) → r ≡ bareText behind → r ≡ false → s.Wrong t.Behind ≡ bareStep number behind
-unfolding bareStep
-bare-no r number behind e h = sym (rw (sym e ∙ h) refl)
-
 -- ---- a check sum added
 
 pub sum-full : (number n : ℕ) (b : List ℕ) → length b < n + 2 → (s.Wrong t.Full ≡ frameStep false number (length b) n) × (b ≡ sealed n b)
