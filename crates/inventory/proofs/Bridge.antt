@@ -13,9 +13,10 @@ use Rattle.ask.specs.declared.label.Family.{Family}
 use Rattle.inventory.specs.Endings.{sumTo}
 use Rattle.inventory.specs.Walk.{Trip, slotOutcome, hits, round, join, start, turn, upto, explore, uids, cleared}
 use Rattle.inventory.specs.Promise.{flat}
-use Rattle.inventory.proofs.Sums.{only, sum-ext, sum-zero}
-use Rattle.inventory.proofs.Trie.{members, mask, mask-lt}
-use Rattle.inventory.proofs.Walks.{ifs, alone, rounds, listing}
+use Rattle.inventory.specs.Numbers.{inSlot, only, ifs, lone, singles, collides, listOf, roundsOf}
+use Rattle.inventory.proofs.Sums.{sum-ext, sum-zero}
+use Rattle.inventory.proofs.Trie.{members, mask, split, mask-lt}
+use Rattle.inventory.proofs.Walks.{rounds, listing}
 use Rattle.rack.proofs.Places.{gather-ext}
 use Rattle.inventory.proofs.Lists.{gather-at}
 use Rattle.inventory.proofs.Flat.{flat-append, flat-none, flat-gather}
@@ -24,17 +25,17 @@ use Rattle.inventory.proofs.Rounds.{left-rack}
 use Rattle.inventory.proofs.Uids.{heard-count, heard-alone}
 use Rattle.inventory.proofs.Left.{cleared-fine, cleared-uids, cleared-twice}
 
-gather-none : (n : ℕ) (b : ℕ → Bool) → gather n (λ s. ifs (b s) []) ≡ []
+pub ifs-none : (n : ℕ) (b : ℕ → Bool) → gather n (λ s. ifs (b s) []) ≡ []
 unfolding gather
-gather-none zero b = refl
-gather-none (suc n) b = rw (gather-none n b) (go (b n))
+ifs-none zero b = refl
+ifs-none (suc n) b = rw (ifs-none n b) (go (b n))
   where
     go : (q : Bool) → _≡_ {A = List ℕ} (ifs q []) []
     go true = refl
     go false = refl
 
-sum-none : (n : ℕ) (b : ℕ → Bool) → sumTo n (λ s. only (b s) 0) ≡ 0
-sum-none n b = sum-zero n (λ s. only (b s) 0) (λ s. go (b s))
+pub only-none : (n : ℕ) (b : ℕ → Bool) → sumTo n (λ s. only (b s) 0) ≡ 0
+only-none n b = sum-zero n (λ s. only (b s) 0) (λ s. go (b s))
   where
     go : (q : Bool) → only q 0 ≡ 0
     go true = refl
@@ -47,13 +48,49 @@ module _ (r : List ℕ) (fine : Fine r) (family : Family) (m e : ℕ) (short : m
   unfolding round
   left = left-rack r fine family m e short low
 
-  pub hit : (s : ℕ) → s < 16 → getD (round r family m e .hits) s 0 ≡ length (members (4 + m) (mask m e s) (uids family r))
+  hit : (s : ℕ) → s < 16 → getD (round r family m e .hits) s 0 ≡ length (members (4 + m) (mask m e s) (uids family r))
   unfolding round
   hit s h = gather-at 16 (λ i. hits (slotOutcome r family m e i)) s h ∙ heard-count r fine family m e short low s (omega arith)
 
-  pub list : round r family m e .found ≡ flat (gather 16 (λ s. alone (members (4 + m) (mask m e s) (uids family r))))
+  pub list : round r family m e .found ≡ flat (gather 16 (λ s. lone (members (4 + m) (mask m e s) (uids family r))))
   unfolding round
   list = gather-ext 16 _ _ (λ s h. heard-alone r fine family m e short low s (omega arith)) ∙ flat-gather 16 _
+
+-- ---- as the code does it: a branch by slots
+
+slot-members : (m e s : ℕ) → e < 2 ^ m → (us : List ℕ) → inSlot m (members m e us) s ≡ members (4 + m) (mask m e s) us
+unfolding inSlot
+slot-members m e s h us = sym (split 4 m e s h us)
+
+module _ (us : List ℕ) where
+  pub branch-list : (d m e : ℕ) → e < 2 ^ m → listOf (suc d) m (members m e us) ≡ listing 4 d m e us
+  unfolding listOf singles listing
+  branch-list zero m e h =
+      ap (λ (l : List ℕ). gather 16 (λ s. lone (inSlot m (members m e us) s)) ++ l) (ifs-none 16 (collides m (members m e us))) ∙ append-nil _
+      ∙ gather-ext 16 _ _ (λ s b. ap lone (slot-members m e s h us))
+  branch-list (suc d) m e h =
+      let A : ℕ → List ℕ = λ s. ifs (collides m (members m e us) s) (listOf (suc d) (m + 4) (inSlot m (members m e us) s)) in
+      let B : ℕ → List ℕ = λ s. ifs (leb 2 (length (members (4 + m) (mask m e s) us))) (listing 4 d (4 + m) (mask m e s) us) in
+      let at-slot : (s : ℕ) → s < 16 → A s ≡ B s
+      = λ s b.
+      ap (λ (l : List ℕ). ifs (leb 2 (length l)) (listOf (suc d) (m + 4) l)) (slot-members m e s h us)
+      ∙ ap (λ (n : ℕ). ifs (leb 2 (length (members (4 + m) (mask m e s) us))) (listOf (suc d) n (members (4 + m) (mask m e s) us))) (add-comm m 4)
+      ∙ ap (λ (l : List ℕ). ifs (leb 2 (length (members (4 + m) (mask m e s) us))) l) (branch-list d (4 + m) (mask m e s) (mask-lt 4 m e s h b)) in
+      ap (λ (l : List ℕ). l ++ gather 16 A) (gather-ext 16 _ _ (λ s b. ap lone (slot-members m e s h us)))
+      ∙ ap (λ (l : List ℕ). gather 16 (λ s. lone (members (4 + m) (mask m e s) us)) ++ l) (gather-ext 16 A B at-slot)
+
+  pub branch-rounds : (d m e : ℕ) → e < 2 ^ m → roundsOf (suc d) m (members m e us) ≡ rounds 4 d m e us
+  unfolding roundsOf rounds
+  branch-rounds zero m e h = ap (λ (n : ℕ). 1 + n) (only-none 16 (collides m (members m e us)))
+  branch-rounds (suc d) m e h =
+      let A : ℕ → ℕ = λ s. only (collides m (members m e us) s) (roundsOf (suc d) (m + 4) (inSlot m (members m e us) s)) in
+      let B : ℕ → ℕ = λ s. only (leb 2 (length (members (4 + m) (mask m e s) us))) (rounds 4 d (4 + m) (mask m e s) us) in
+      let at-slot : (s : ℕ) → s < 16 → A s ≡ B s
+      = λ s b.
+      ap (λ (l : List ℕ). only (leb 2 (length l)) (roundsOf (suc d) (m + 4) l)) (slot-members m e s h us)
+      ∙ ap (λ (n : ℕ). only (leb 2 (length (members (4 + m) (mask m e s) us))) (roundsOf (suc d) n (members (4 + m) (mask m e s) us))) (add-comm m 4)
+      ∙ ap (λ (n : ℕ). only (leb 2 (length (members (4 + m) (mask m e s) us))) n) (branch-rounds d (4 + m) (mask m e s) (mask-lt 4 m e s h b)) in
+      ap (λ (n : ℕ). 1 + n) (sum-ext 16 A B at-slot)
 
 -- ---- the walk
 
@@ -99,9 +136,9 @@ module _ (family : Family) (us C : List ℕ) where
         (λ n q r₁ g₁. record { rack = g₁; found = sym flat-none; rounds = refl }) (h .rack) (left r (g .fine) family m e b i ∙ g .clears) in
         record {
           rack = k .rack;
-          found = ap (λ (x : List ℕ). h .found ++ x) (k .found ∙ ap flat (gather-none 16 (λ n. ltb 1 (getD (h .hits) n 0))) ∙ flat-none) ∙ append-nil (h .found)
+          found = ap (λ (x : List ℕ). h .found ++ x) (k .found ∙ ap flat (ifs-none 16 (λ n. ltb 1 (getD (h .hits) n 0))) ∙ flat-none) ∙ append-nil (h .found)
               ∙ rw (g .same) at (list r (g .fine) family m e b i);
-          rounds = ap (λ (x : ℕ). 1 + x) (k .rounds ∙ sum-none 16 (λ n. ltb 1 (getD (h .hits) n 0)));
+          rounds = ap (λ (x : ℕ). 1 + x) (k .rounds ∙ only-none 16 (λ n. ltb 1 (getD (h .hits) n 0)));
         }
     told (suc d) m r e g i w =
         let b : m ≤ 60 = omega arith in
@@ -117,8 +154,8 @@ module _ (family : Family) (us C : List ℕ) where
           rack = k .rack;
           found = ap (λ (x : List ℕ). h .found ++ x) (k .found)
               ∙ ap (λ (x : List ℕ). x ++ flat (gather 16 (λ n. ifs (ltb 1 (getD (h .hits) n 0)) (L n)))) (rw (g .same) at (list r (g .fine) family m e b i))
-              ∙ sym (flat-append (gather 16 (λ s. alone (members (4 + m) (mask m e s) us))) _)
-              ∙ ap (λ (x : List ℕ). flat (gather 16 (λ s. alone (members (4 + m) (mask m e s) us)) ++ x))
+              ∙ sym (flat-append (gather 16 (λ s. lone (members (4 + m) (mask m e s) us))) _)
+              ∙ ap (λ (x : List ℕ). flat (gather 16 (λ s. lone (members (4 + m) (mask m e s) us)) ++ x))
               (gather-ext 16 _ _ (λ n q. ap (λ (z : ℕ). ifs (leb 2 z) (L n)) (counts n q)));
           rounds = ap (λ (x : ℕ). 1 + x) (k .rounds ∙ sum-ext 16 _ _ (λ n q. ap (λ (z : ℕ). only (leb 2 z) (N n)) (counts n q)));
         }

@@ -1,55 +1,73 @@
--- What the public call cites: the refusal in its order, room and rounds for the walk, and its reply. Idea: accepted, `done` bounds list and rounds; then the reply is `replies`. Assumes nothing.
+-- What the public call cites: the refusal in its order, the UIDs that a walk starts from, room and rounds for it, and its reply.
+-- Idea: accepted, `done` bounds list and rounds; then the reply is `replies`. Assumes nothing.
 use mathlib.Core.Path.{_≡_, refl, ap, sym, _∙_}
 use mathlib.Core.Bool.{Bool, true, false}
 use mathlib.Core.List.{List}
-use Prim.Native.Nat.{ℕ, _+_, _*_, _/_, _^_, _≤_, _<_}
+use Prim.Native.Nat.{ℕ, _+_, _-_, _*_, _/_, _^_, _≤_, _<_}
 use native.Mathlib.Nat.{zero-add}
 use native.Mathlib.Omega.{arith}
 use borrow.Author.Tests.{ne-eqb, lt-ltb, le-ltb}
-use lib.ListN.{length}
+use lib.ListN.{length, take}
 use lib.Seq.{sets}
 use Rattle.frame.specs.Number.{Bytes}
 use Rattle.frame.specs.declared.verdict.Verdict.{Verdict}
 use Rattle.ask.specs.declared.label.Family.{Family}
+use Rattle.ask.specs.declared.label.Family.the-variants.{Any}
 use Rattle.rack.specs.File.{countOf, verdictOf}
 use Rattle.rack.specs.Facts.{RackFine}
 use Rattle.inventory.specs.declared.walk.Walked.{Walked}
-use Rattle.inventory.specs.Walk.{explore, depth, twins, refusalOf, walkOf}
-use Rattle.inventory.specs.Promise.{Promise}
+use Rattle.inventory.specs.Walk.{explore, depth, uids, twins, refusalOf, walkOf, cleared}
+use Rattle.inventory.specs.Numbers.{First, repeated, listOf, roundsOf}
+use Rattle.inventory.specs.Promise.{flat, Promise}
 use Rattle.inventory.proofs.Left.{uids-few}
 use Rattle.rack.proofs.Verdicts.{rack-fine}
-use Rattle.inventory.proofs.Same.{apart}
-use Rattle.inventory.proofs.Promise.{Accepted, accepted, done, walk-carried, walk-refused, replies}
+use Rattle.inventory.proofs.Repeated.{twins-repeated, twins-none}
+use Rattle.inventory.proofs.Promise.{Accepted, accepted, Done, done, walk-carried, walk-refused, replies}
 
--- ---- the refusal
+-- the first n of us, as a part of them is lent
+first-part : {xs us : List ℕ} {n : ℕ} → First xs us n → take (n - 0) us ≡ xs
+first-part {us = us} {n = n} f = let z : n - 0 ≡ n = omega arith in ap (λ (j : ℕ). take j us) z ∙ f .are
 
-module _ (r : List ℕ) (room : ℕ) {v : Verdict} (is : v ≡ verdictOf r) where
-  pub refuse-bad : (v .number ≡ 0 → ⊥) → 1 ≡ refusalOf r room
+-- ---- before the first round
+
+module _ (r : List ℕ) (room : ℕ) (family : Family) {v : Verdict} (is : v ≡ verdictOf r) where
+  abbrev Begins : ℕ → List ℕ → ℕ → Type 0
+  Begins number us labels = (number ≡ refusalOf r room) × (number ≡ 0 → First (uids family r) us labels)
+
+  -- a refusal says nothing of the UIDs
+  refuses : {number labels : ℕ} {us : List ℕ} → 0 < number → number ≡ refusalOf r room → Begins number us labels
+  refuses h e = (e, λ z. absurd (omega (arith, h, z)))
+
+  pub begins-bad : {us : List ℕ} {labels : ℕ} → (v .number ≡ 0 → ⊥) → Begins 1 us labels
   unfolding refusalOf
-  refuse-bad h = rw (← is, ne-eqb (v .number) 0 h) refl
+  begins-bad h = refuses (omega arith) (rw (← is, ne-eqb (v .number) 0 h) refl)
 
   module _ (h : v .number ≡ 0) where
     none : verdictOf r .number ≡ 0
     none = ap (λ (w : Verdict). w .number) (sym is) ∙ h
 
-    pub refuse-fine : RackFine r
-    refuse-fine = rack-fine r none
+    pub begins-fine : RackFine r
+    begins-fine = rack-fine r none
 
-    pub refuse-short : {n : ℕ} → n ≡ countOf r → room < 8 * n → 5 ≡ refusalOf r room
-    unfolding refusalOf
-    refuse-short {n} e b = let s : room < 8 * countOf r = omega (arith, e) in rw (none, lt-ltb room (8 * countOf r) s) refl
-
-    module _ {n : ℕ} (e : n ≡ countOf r) (b : 8 * n ≤ room) {t : Bool} (f : t ≡ twins r) where
-      long : 8 * countOf r ≤ room
-      long = omega (arith, e)
-
-      pub refuse-twins : t ≡ true → 6 ≡ refusalOf r room
+    module _ {n : ℕ} (e : n ≡ countOf r) where
+      pub begins-short : {us : List ℕ} {labels : ℕ} → room < 8 * n → Begins 5 us labels
       unfolding refusalOf
-      refuse-twins y = rw (none, le-ltb room (8 * countOf r) long, sym f ∙ y) refl
+      begins-short b = let s : room < 8 * countOf r = omega (arith, e) in refuses (omega arith) (rw (none, lt-ltb room (8 * countOf r) s) refl)
 
-      pub refuse-none : t ≡ false → 0 ≡ refusalOf r room
-      unfolding refusalOf
-      refuse-none y = rw (none, le-ltb room (8 * countOf r) long, sym f ∙ y) refl
+      module _ (b : 8 * n ≤ room) {us₀ : List ℕ} {all : ℕ} (first : First (uids Any r) us₀ all) {t : Bool} (f : t ≡ repeated (take (all - 0) us₀)) where
+        long : 8 * countOf r ≤ room
+        long = omega (arith, e)
+
+        same : t ≡ twins r
+        same = f ∙ ap repeated (first-part first) ∙ sym (twins-repeated r)
+
+        pub begins-twins : {us : List ℕ} {labels : ℕ} → t ≡ true → Begins 6 us labels
+        unfolding refusalOf
+        begins-twins y = refuses (omega arith) (rw (none, le-ltb room (8 * countOf r) long, sym same ∙ y) refl)
+
+        pub begins-ready : {us : List ℕ} {labels : ℕ} → t ≡ false → First (uids family r) us labels → Begins 0 us labels
+        unfolding refusalOf
+        begins-ready y told = (rw (none, le-ltb room (8 * countOf r) long, sym same ∙ y) refl, λ z. told)
 
 -- ---- the walk
 
@@ -59,7 +77,8 @@ module _ (r : List ℕ) (small : Bytes r) (family : Family) (list : List ℕ) wh
       (w ≡ walkOf r family list .report)
       × ((r₁ ≡ walkOf r family list .rack) × ((list₁ ≡ walkOf r family list .list) × (w .number ≡ 0 → Promise family r r₁ list list₁ w)))
 
-  reply : {w : Walked} {r₁ list₁ : List ℕ} → w ≡ walkOf r family list .report → r₁ ≡ walkOf r family list .rack → list₁ ≡ walkOf r family list .list → Replied w r₁ list₁
+  reply : {w : Walked} {r₁ list₁ : List ℕ} → w ≡ walkOf r family list .report → r₁ ≡ walkOf r family list .rack → list₁ ≡ walkOf r family list .list
+      → Replied w r₁ list₁
   reply {w} {r₁} {list₁} p q l = (p, (q, (l, replies family r r₁ list list₁ w small p q l .promised)))
 
   pub call-refused : {n : ℕ} → n ≡ refusalOf r (length list) → (n ≡ 0 → ⊥) → Replied (record { number = n; labels = 0; rounds = 0 }) r list
@@ -71,16 +90,31 @@ module _ (r : List ℕ) (small : Bytes r) (family : Family) (list : List ℕ) wh
     ok : Accepted r (length list)
     ok = accepted r (length list) (sym e ∙ h)
 
-    pub call-asks : (0 + length (explore (depth 0) r family 0 0 .found) ≤ length list) × ((explore (depth 0) r family 0 0 .rounds < 2 ^ 64) × (RackFine r × ((0 ≤ 60) × (0 < 2 ^ 0))))
-    call-asks =
-        let p = done r (record { rack = ok .fine; bytes = small }) family (apart r (ok .single)) in
-        let f = ok .fine .head .few in
-        (omega (arith, p .size, uids-few family r, ok .roomy), (omega (arith, p .bound, uids-few family r), (ok .fine, (omega arith, omega arith))))
+    walked : Done family r (explore (depth 0) r family 0 0)
+    walked = done r (record { rack = ok .fine; bytes = small }) family (twins-none r (ok .single))
 
-    pub call-walked : {r₁ list₁ : List ℕ} {c k : ℕ} → r₁ ≡ explore (depth 0) r family 0 0 .rack → list₁ ≡ sets list 0 (explore (depth 0) r family 0 0 .found)
-        → c ≡ 0 + length (explore (depth 0) r family 0 0 .found) → k ≡ explore (depth 0) r family 0 0 .rounds
-        → Replied (record { number = 0; labels = c / 8; rounds = k }) r₁ list₁
-    call-walked {r₁} {list₁} {c} {k} p l q s =
-        let x = walk-carried r family list (sym e ∙ h) in
-        let z : c ≡ length (explore (depth 0) r family 0 0 .found) = q ∙ zero-add _ in
-        reply (rw (x, z, s) refl) (rw x p) (rw x l)
+    pub call-fine : RackFine r
+    call-fine = ok .fine
+
+    module _ {us : List ℕ} {labels : ℕ} (first : First (uids family r) us labels) where
+      -- what the walk from no mask on asks, of the part that is lent
+      pub call-asks : (0 + length (flat (listOf (depth 0) 0 (take (labels - 0) us))) ≤ length list)
+          × ((roundsOf (depth 0) 0 (take (labels - 0) us) < 2 ^ 64) × (0 ≤ 60))
+      call-asks =
+          let f = ok .fine .head .few in
+          let m = uids-few family r in
+          rw (first-part first) (
+            omega (arith, walked .size, ap length (walked .branches), ok .roomy),
+            (omega (arith, walked .bound, walked .trips), omega arith),
+          )
+
+      pub call-walked : {r₁ list₁ : List ℕ} {c k : ℕ} → r₁ ≡ cleared r
+          → (list₁ ≡ sets list 0 (flat (listOf (depth 0) 0 (take (labels - 0) us))))
+          × ((c ≡ 0 + length (flat (listOf (depth 0) 0 (take (labels - 0) us)))) × (k ≡ roundsOf (depth 0) 0 (take (labels - 0) us)))
+          → Replied (record { number = 0; labels = c / 8; rounds = k }) r₁ list₁
+      call-walked {r₁} {list₁} {c} {k} p told =
+          let x = walk-carried r family list (sym e ∙ h) in
+          let t = rw (first-part first) at told in
+          let z : c ≡ length (explore (depth 0) r family 0 0 .found) = t .1 .0 ∙ zero-add _ ∙ ap length (sym (walked .branches)) in
+          let y : k ≡ explore (depth 0) r family 0 0 .rounds = t .1 .1 ∙ sym (walked .trips) in
+          reply (rw (x, z, y) refl) (rw x (p ∙ sym (walked .leaves))) (rw x (t .0 ∙ ap (sets list 0) (sym (walked .branches))))

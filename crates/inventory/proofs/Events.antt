@@ -25,7 +25,7 @@ use Rattle.rack.specs.File.{countOf, entryAt, kindAt, lengthAt, startOf, bodyAt
 use Rattle.rack.specs.Facts.{RackFine}
 use Rattle.rack.specs.Event.{Signal, Outcome, signalOf, next, answer, nextRack, answers, played, refusalOf, eventOf}
 use Rattle.inventory.specs.Walk.{request, sent}
-use Rattle.inventory.specs.Sent.{signal, draws}
+use Rattle.inventory.proofs.Sent.{signal, draws}
 use Rattle.label.proofs.Fine.{rules-fine}
 use Rattle.ask.proofs.Back.{sixteen-back, sixteen-afi-back}
 use Rattle.rack.proofs.Places.{gather-ext}
@@ -50,7 +50,7 @@ two-kinds k h = go (eqb k 1) refl (eqb k 2) refl h
     go false e true f z = inr (eqb-true k 2 f)
     go false e false f z = absurd (let x : _≡_ {A = ℕ} 0 1 = cc in omega arith)
 
-pub kind-of : (r : List ℕ) → RackFine r → (i : ℕ) → i < countOf r → (kindAt r i ≡ 1) ⊎ (kindAt r i ≡ 2)
+kind-of : (r : List ℕ) → RackFine r → (i : ℕ) → i < countOf r → (kindAt r i ≡ 1) ⊎ (kindAt r i ≡ 2)
 unfolding entryVerdict
 kind-of r ok i h =
     let e = ap (λ (v : Verdict). v .number) (ok .entry i h .isFine) in

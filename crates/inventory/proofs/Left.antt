@@ -47,9 +47,12 @@ one-at-most family k b = go (eqb k 1 && on family b)
     go true = omega arith
     go false = omega arith
 
-pub uids-few : (family : Family) (r : List ℕ) → length (uids family r) ≤ countOf r
+pub uidsTo-few : (family : Family) (r : List ℕ) (n : ℕ) → length (uidsTo family r n) ≤ n
 unfolding uidsTo
-uids-few family r = gather-few (countOf r) _ (λ i. one-at-most family (kindAt r i) (bodyAt r i))
+uidsTo-few family r n = gather-few n _ (λ i. one-at-most family (kindAt r i) (bodyAt r i))
+
+pub uids-few : (family : Family) (r : List ℕ) → length (uids family r) ≤ countOf r
+uids-few family r = uidsTo-few family r (countOf r)
 
 -- ---- the rack
 

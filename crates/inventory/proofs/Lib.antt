@@ -5,6 +5,7 @@ pub mod Trie
 pub mod Walks
 pub mod Lists
 pub mod Flat
+pub mod Sent
 pub mod Bodies
 pub mod Says
 pub mod Events
@@ -12,10 +13,13 @@ pub mod Rounds
 pub mod Uids
 pub mod Left
 pub mod Bridge
-pub mod Same
+pub mod Repeated
 pub mod Promise
-pub mod Sends
-pub mod Turns
-pub mod Steps
+pub mod Slots
+pub mod Sorts
+pub mod Listed
+pub mod Gathered
+pub mod Clears
+pub mod Branches
 pub mod Calls
 pub mod Marked

@@ -1,17 +1,21 @@
 -- Laws of what is gathered over indices. Idea: each law of a gathered list is a law of one index. Assumes nothing.
-use mathlib.Core.Path.{_≡_, refl, subst, _∙_}
-use mathlib.Core.List.{List, [], _∷_, _++_, map}
+use mathlib.Core.Path.{_≡_, refl, ap, subst, _∙_}
+use mathlib.Core.List.{List, [], _∷_, _++_, map, append-assoc, append-nil}
 use Prim.Native.Nat.{ℕ, zero, suc, _+_, _-_, _≤_, _<_}
 use mathlib.Core.Logic.{⊎-elim}
 use native.Mathlib.Nat.{add-zero, add-suc, eq-or-lt-of-le}
 use native.Mathlib.Omega.{arith}
-use lib.ListN.{length, getD, length-append, List·getD-append}
-use lib.Seq.{getD-at}
+use lib.ListN.{length, getD, drop, length-append, List·getD-append}
+use lib.Seq.{getD-at, getD-drop}
 use Rattle.frame.specs.Choose.{gather}
-use Rattle.frame.proofs.Lists.{gather-suc}
+use Rattle.frame.proofs.Lists.{gather-none, gather-suc}
+
+-- the first of what is left
+pub drop-head : (i : ℕ) (us : List ℕ) → getD (drop i us) 0 0 ≡ getD us i 0
+drop-head i us = getD-drop i us 0 0 ∙ ap (λ (j : ℕ). getD us j 0) (add-zero i)
 
 -- one value a place
-pub gather-length : (n : ℕ) (f : ℕ → ℕ) → length (gather n (λ i. f i ∷ [])) ≡ n
+gather-length : (n : ℕ) (f : ℕ → ℕ) → length (gather n (λ i. f i ∷ [])) ≡ n
 unfolding gather
 gather-length zero f = refl
 gather-length (suc n) f = length-append (gather n (λ i. f i ∷ [])) _ ∙ omega (arith, gather-length n f)
@@ -42,6 +46,21 @@ unfolding gather
 gather-few zero f h = omega arith
 gather-few (suc n) f h = omega (arith, length-append (gather n f) (f n), gather-few n f h, h n)
 
+pub gather-split : (b a : ℕ) (f : ℕ → List ℕ) → gather (a + b) f ≡ gather a f ++ gather b (λ t. f (a + t))
+gather-split zero a f = rw (add-zero, gather-none, append-nil) refl
+gather-split (suc b) a f = rw (add-suc, gather-suc, gather-suc, gather-split b a f) (append-assoc (gather a f) (gather b (λ t. f (a + t))) (f (a + b)))
+
+-- nothing added from s on
+pub gather-still : (n s : ℕ) (g : ℕ → List ℕ) → s ≤ n → ((q : ℕ) → s ≤ q → q < n → g q ≡ []) → gather n g ≡ gather s g
+gather-still zero s g h e = let z : s ≡ 0 = omega arith in rw z refl
+gather-still (suc n) s g h e =
+    ⊎-elim
+    (λ (q : s ≡ suc n). rw q refl)
+    (λ (q : s < suc n).
+    let b : s ≤ n = omega arith in
+    gather-suc n g ∙ ap (λ (l : List ℕ). gather n g ++ l) (e n b (omega arith)) ∙ append-nil (gather n g) ∙ gather-still n s g b (λ p c d. e p c (omega arith)))
+    (eq-or-lt-of-le h)
+
 -- ---- what holds of all of a list
 
 abbrev pub Each : {A : Type 0} → (A → Type 0) → List A → Type 0
@@ -56,6 +75,15 @@ pub each-gather : {A : Type 0} (P : A → Type 0) (n : ℕ) (g : ℕ → List A)
 unfolding gather
 each-gather P zero g h = tt
 each-gather P (suc n) g h = each-append P (gather n g) (g n) (each-gather P n g (λ i b. h i (omega arith))) (h n (omega arith))
+
+pub each-as : {P Q : ℕ → Type 0} → ((u : ℕ) → P u → Q u) → (a : List ℕ) → Each P a → Each Q a
+each-as f [] e = tt
+each-as f (x ∷ a) e = (f x (e .0), each-as f a (e .1))
+
+pub each-at : (P : ℕ → Type 0) (a : List ℕ) → Each P a → (j : ℕ) → j < length a → P (getD a j 0)
+each-at P [] e j h = absurd (omega arith)
+each-at P (x ∷ a) e zero h = e .0
+each-at P (x ∷ a) e (suc j) h = each-at P a (e .1) j (omega arith)
 
 map-append : {A B : Type 0} (f : A → B) (a b : List A) → map f (a ++ b) ≡ map f a ++ map f b
 map-append f [] b = refl

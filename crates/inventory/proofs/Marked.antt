@@ -29,8 +29,8 @@ use Rattle.inventory.proofs.Promise.{walk-carried, promise}
 
 -- ---- on UIDs
 
-abbrev pub roundsOf : List ℕ → ℕ
-roundsOf us = 1 + sumTo 15 (λ i. length (shared (4 * suc i) us))
+abbrev pub byEndings : List ℕ → ℕ
+byEndings us = 1 + sumTo 15 (λ i. length (shared (4 * suc i) us))
 
 -- (k) for any two
 one-shared : (m u v : ℕ) → ending m u ≡ ending m v → length (shared m (u ∷ v ∷ [])) ≡ 1
@@ -51,7 +51,7 @@ one-shared m u v e = rw e (ap (λ (ys : List ℕ). length (keep many ys)) values
     twice : count x (x ∷ x ∷ []) ≡ 2
     twice = rw same refl
 
-pub top-four : (u v : ℕ) → ending 60 u ≡ ending 60 v → roundsOf (u ∷ v ∷ []) ≡ 16
+pub top-four : (u v : ℕ) → ending 60 u ≡ ending 60 v → byEndings (u ∷ v ∷ []) ≡ 16
 top-four u v e = ap (λ (n : ℕ). 1 + n) (sum-ext 15 _ (λ i. 1) (λ i h. one-shared (4 * suc i) u v (shorter (4 * suc i) (omega arith))))
   where
     shorter : (m : ℕ) → m ≤ 60 → ending m u ≡ ending m v
@@ -63,15 +63,15 @@ top-four u v e = ap (λ (n : ℕ). 1 + n) (sum-ext 15 _ (λ i. 1) (λ i h. one-s
 -- ---- on racks
 
 -- what a walk that is not refused counts
-counted : (r : List ℕ) → Bytes r → (family : Family) (list : List ℕ) → refusalOf r (length list) ≡ 0 → walkOf r family list .report .rounds ≡ roundsOf (uids family r)
+counted : (r : List ℕ) → Bytes r → (family : Family) (list : List ℕ) → refusalOf r (length list) ≡ 0 → walkOf r family list .report .rounds ≡ byEndings (uids family r)
 counted r small family list h = promise r small family list (ap (λ x. x .report .number) (walk-carried r family list h)) .counts
 
 pub walk-k : (r : List ℕ) → Bytes r → (family : Family) (list : List ℕ) → refusalOf r (length list) ≡ 0 → (u v : ℕ) → uids family r ≡ u ∷ v ∷ [] → ending 60 u ≡ ending 60 v
     → walkOf r family list .report .rounds ≡ 16
-walk-k r small family list h u v e t = counted r small family list h ∙ ap roundsOf e ∙ top-four u v t
+walk-k r small family list h u v e t = counted r small family list h ∙ ap byEndings e ∙ top-four u v t
 
 pub walk-l : (r : List ℕ) → Bytes r → (family : Family) (list : List ℕ) → refusalOf r (length list) ≡ 0 → uids family r ≡ [] → walkOf r family list .report .rounds ≡ 1
-walk-l r small family list h e = counted r small family list h ∙ ap roundsOf e
+walk-l r small family list h e = counted r small family list h ∙ ap byEndings e
 
 -- a rack of two such labels, each with one block of one byte, and a rack of no tag
 abbrev label : ℕ → List ℕ

@@ -18,15 +18,16 @@ use Rattle.rack.specs.Facts.{RackFine}
 use Rattle.inventory.specs.declared.walk.Walked.{Walked}
 use Rattle.inventory.specs.Endings.{count, sumTo, shared}
 use Rattle.inventory.specs.Walk.{Trip, explore, depth, uids, twins, refusalOf, refused, carried, walkOf, cleared}
+use Rattle.inventory.specs.Numbers.{listOf, roundsOf}
 use Rattle.inventory.specs.Promise.{flat, Promise}
 use Rattle.inventory.proofs.Twice.{Distinct}
-use Rattle.inventory.proofs.Walks.{listing, lists-each, as-long, rounds-16, rounds-16-bound}
+use Rattle.inventory.proofs.Walks.{all-end, listing, lists-each, as-long, rounds-16, rounds-16-bound}
 use Rattle.inventory.proofs.Flat.{flat-length}
 use Rattle.rack.proofs.Verdicts.{rack-fine}
 use Rattle.inventory.proofs.Events.{Fine}
 use Rattle.inventory.proofs.Left.{uids-below, some-distinct}
-use Rattle.inventory.proofs.Bridge.{told, start-good, cleared-good}
-use Rattle.inventory.proofs.Same.{apart}
+use Rattle.inventory.proofs.Bridge.{branch-list, branch-rounds, told, start-good, cleared-good}
+use Rattle.inventory.proofs.Repeated.{twins-none}
 
 -- ---- the walk of a well-formed rack without twins
 
@@ -38,6 +39,9 @@ pub record Done (family : Family) (r : List ℕ) (t : Trip) : Type 0 where
   pub counts : t .rounds ≡ 1 + sumTo 15 (λ i. length (shared (4 * suc i) (uids family r)))
   pub bound : t .rounds ≤ 1 + 15 * (length (uids family r) / 2)
   pub leaves : t .rack ≡ cleared r
+  -- as the code walks the UIDs
+  pub branches : t .found ≡ flat (listOf (depth 0) 0 (uids family r))
+  pub trips : t .rounds ≡ roundsOf (depth 0) 0 (uids family r)
 
 pub done : (r : List ℕ) → Fine r → (family : Family) → Distinct (uids Any r) → Done family r (explore (depth 0) r family 0 0)
 unfolding depth
@@ -54,6 +58,8 @@ done r fine family alone =
       counts = t .rounds ∙ rounds-16 us;
       bound = rw (t .rounds) (rounds-16-bound us);
       leaves = t .rack;
+      branches = t .found ∙ ap flat (sym (ap (listOf 16 0) (sym (all-end us)) ∙ branch-list us 15 0 0 (omega arith)));
+      trips = t .rounds ∙ sym (ap (roundsOf 16 0) (sym (all-end us)) ∙ branch-rounds us 15 0 0 (omega arith));
     }
 
 -- ---- where no refusal applies
@@ -97,7 +103,7 @@ pub promise : (r : List ℕ) → Bytes r → (family : Family) (list : List ℕ)
 promise r small family list h =
     let n = walk-number r family list h in
     let a = accepted r (length list) n in
-    let p = done r (record { rack = a .fine; bytes = small }) family (apart r (a .single)) in
+    let p = done r (record { rack = a .fine; bytes = small }) family (twins-none r (a .single)) in
     rw (walk-carried r family list n)
     (record {
       listed = p .listed;

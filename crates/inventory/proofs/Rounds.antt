@@ -15,7 +15,7 @@ use Rattle.rack.specs.File.{countOf, kindAt, lengthAt, bodyAt, rebuilt}
 use Rattle.rack.specs.Facts.{RackFine}
 use Rattle.rack.specs.Event.{Outcome, opened}
 use Rattle.inventory.specs.Walk.{slotOutcome, hits, cleared}
-use Rattle.inventory.specs.Sent.{signal, draws, after, heard}
+use Rattle.inventory.proofs.Sent.{signal, draws, after, heard}
 use Rattle.rack.proofs.Places.{gather-ext}
 use Rattle.rack.proofs.Rebuilt.{body-long, rebuilt-ext}
 use Rattle.rack.proofs.Closed.{next-rebuilt, answers-rebuilt}
@@ -89,7 +89,7 @@ module _ (r : List ℕ) (fine : Fine r) (family : Family) (m e : ℕ) (short : m
       ap (λ (o : Outcome). o .rack) (slot-next r family m e s (rw i (bodies-fine s b)))
       ∙ told-rack (slotOutcome r family m e s .rack) EndOfFrame ∙ ap (λ (x : List ℕ). after x EndOfFrame) i ∙ step-rack s (omega arith)
 
-  pub slot-fine : (s : ℕ) → s ≤ 15 → RackFine (slotOutcome r family m e s .rack)
+  slot-fine : (s : ℕ) → s ≤ 15 → RackFine (slotOutcome r family m e s .rack)
   slot-fine s h = rw (in-slot s h) (bodies-fine s h)
 
   -- what was sent: the Inventory, and then ends of frame
@@ -99,10 +99,7 @@ module _ (r : List ℕ) (fine : Fine r) (family : Family) (m e : ℕ) (short : m
   slot-suc : (s : ℕ) → s ≤ 15 → slotOutcome r family m e (suc s) ≡ told (slotOutcome r family m e s .rack) EndOfFrame
   slot-suc s h = slot-next r family m e s (slot-fine s h)
 
-  pub rack-zero : slotOutcome r family m e 0 .rack ≡ after r (Inventory family true m e)
-  rack-zero = ap (λ (o : Outcome). o .rack) slot-zero ∙ told-rack r (Inventory family true m e)
-
-  pub rack-suc : (s : ℕ) → s ≤ 15 → slotOutcome r family m e (suc s) .rack ≡ after (slotOutcome r family m e s .rack) EndOfFrame
+  rack-suc : (s : ℕ) → s ≤ 15 → slotOutcome r family m e (suc s) .rack ≡ after (slotOutcome r family m e s .rack) EndOfFrame
   rack-suc s h = ap (λ (o : Outcome). o .rack) (slot-suc s h) ∙ told-rack (slotOutcome r family m e s .rack) EndOfFrame
 
   pub left-rack : slotOutcome r family m e 16 .rack ≡ cleared r
@@ -125,10 +122,10 @@ module _ (r : List ℕ) (fine : Fine r) (family : Family) (m e : ℕ) (short : m
   abbrev pub frames : ℕ → List (List ℕ)
   frames s = gather (countOf r) (λ i. spoken (called family m e s (kindAt r i) (bodyAt r i)) (asked s i))
 
-  pub frames-zero : heard r (Inventory family true m e) ≡ frames 0
+  frames-zero : heard r (Inventory family true m e) ≡ frames 0
   frames-zero = first-heard
 
-  pub frames-suc : (s : ℕ) → s < 15 → heard (slotOutcome r family m e s .rack) EndOfFrame ≡ frames (suc s)
+  frames-suc : (s : ℕ) → s < 15 → heard (slotOutcome r family m e s .rack) EndOfFrame ≡ frames (suc s)
   frames-suc s h = ap (λ (x : List ℕ). heard x EndOfFrame) (in-slot s (omega arith)) ∙ step-heard s h
 
   pub heard-in : (s : ℕ) → s ≤ 15 → (hits (slotOutcome r family m e s) ≡ length (frames s)) × (slotOutcome r family m e s .out ≡ opened (frames s) (replicate 64 0))

@@ -1,12 +1,15 @@
 -- Sums over slots, and a list taken apart by slots. Idea: what adds up over the elements, each looking only at its own slot, adds up over the slots (`apart`). Assumes nothing.
-use mathlib.Core.Path.{_≡_, refl, sym, _∙_}
+use mathlib.Core.Path.{_≡_, refl, sym, subst, _∙_}
+use mathlib.Core.Logic.{⊎-elim}
 use mathlib.Core.List.{List, [], _∷_}
 use mathlib.Core.Bool.{Bool, true, false}
-use Prim.Native.Nat.{ℕ, zero, suc, _+_, _≤_, _<_}
+use Prim.Native.Nat.{ℕ, zero, suc, _+_, _-_, _≤_, _<_}
+use native.Mathlib.Nat.{add-zero, add-suc, eq-or-lt-of-le}
 use native.Mathlib.Omega.{arith}
 use lib.Dec.{eqb}
 use borrow.Author.Tests.{ne-eqb, eqb-true, eqb-false}
 use Rattle.inventory.specs.Endings.{keepIf, keep, sumTo}
+use Rattle.inventory.specs.Numbers.{only}
 
 pub sum-zero : (n : ℕ) (f : ℕ → ℕ) → ((s : ℕ) → f s ≡ 0) → sumTo n f ≡ 0
 sum-zero zero f h = refl
@@ -27,10 +30,23 @@ pub sum-front : (n : ℕ) (f : ℕ → ℕ) → sumTo (suc n) f ≡ f 0 + sumTo 
 sum-front zero f = omega arith
 sum-front (suc n) f = omega (arith, sum-front n f)
 
--- d where the test passes
-abbrev pub only : Bool → ℕ → ℕ
-only true d = d
-only false d = 0
+-- a part of a sum
+sum-grows : (n i : ℕ) (g : ℕ → ℕ) → sumTo i g ≤ sumTo (i + n) g
+sum-grows zero i g = rw add-zero (omega arith)
+sum-grows (suc n) i g = rw add-suc (omega (arith, sum-grows n i g))
+
+pub sum-within : (i n : ℕ) (g : ℕ → ℕ) → i ≤ n → sumTo i g ≤ sumTo n g
+sum-within i n g h =
+    let e : i + (n - i) ≡ n = omega arith in
+    subst (λ (k : ℕ). sumTo i g ≤ sumTo k g) e (sum-grows (n - i) i g)
+
+pub sum-still : (n s : ℕ) (g : ℕ → ℕ) → s ≤ n → ((q : ℕ) → s ≤ q → q < n → g q ≡ 0) → sumTo n g ≡ sumTo s g
+sum-still zero s g h e = let z : s ≡ 0 = omega arith in rw z refl
+sum-still (suc n) s g h e =
+    ⊎-elim
+    (λ (q : s ≡ suc n). rw q refl)
+    (λ (q : s < suc n). let b : s ≤ n = omega arith in omega (arith, e n b (omega arith), sum-still n s g b (λ p c d. e p c (omega arith))))
+    (eq-or-lt-of-le h)
 
 -- one slot of n has d
 sum-none : (n s d : ℕ) → n ≤ s → sumTo n (λ t. only (eqb s t) d) ≡ 0

@@ -1,6 +1,6 @@
 -- The counting, over k, the bits that a round adds. Idea: the collided masks below a mask (`nodes`), taken apart by slots, are the endings that two or more of its members share (`levels`). Assumes nothing.
 use mathlib.Core.Path.{_≡_, refl, ap, sym, _∙_}
-use mathlib.Core.List.{List, [], _∷_, map}
+use mathlib.Core.List.{List, [], _∷_, _++_, map}
 use mathlib.Core.Bool.{Bool, true, false}
 use Prim.Native.Nat.{ℕ, zero, suc, _+_, _*_, _/_, _%_, _^_, _<_}
 use native.Mathlib.Nat.{zero-add, add-assoc, mod-lt}
@@ -11,7 +11,8 @@ use lib.Pow.{pow-pos, pow-add, mod-pow-add, field, mod-mod-pow, high, low}
 use lib.Arith.{digits-lt}
 use borrow.Author.Tests.{eq-eqb, ne-eqb, eqb-true, eqb-false, le-leb, leb-false}
 use Rattle.inventory.specs.Endings.{one, count, keepIf, keep, sumTo, ending}
-use Rattle.inventory.proofs.Sums.{only, group, apart, sum-ext, sum-add, sum-zero}
+use Rattle.inventory.specs.Numbers.{only}
+use Rattle.inventory.proofs.Sums.{group, apart, sum-ext, sum-add, sum-zero}
 use Rattle.inventory.proofs.Twice.{twice}
 
 -- the k bits of u above its last m
@@ -28,7 +29,7 @@ mask m e s = s * 2 ^ m + e
 
 -- ---- a mask's members, by slots
 
-keep-keep : (p q r : ℕ → Bool) → ((u : ℕ) → q u ≡ true → p u ≡ r u) → ((u : ℕ) → q u ≡ false → p u ≡ false)
+pub keep-keep : (p q r : ℕ → Bool) → ((u : ℕ) → q u ≡ true → p u ≡ r u) → ((u : ℕ) → q u ≡ false → p u ≡ false)
     → (us : List ℕ) → keep p us ≡ keep r (keep q us)
 keep-keep p q r h g [] = refl
 keep-keep p q r h g (x ∷ us) = go (keep-keep p q r h g us) (q x) refl
@@ -36,6 +37,14 @@ keep-keep p q r h g (x ∷ us) = go (keep-keep p q r h g us) (q x) refl
     go : keep p us ≡ keep r (keep q us) → (b : Bool) → q x ≡ b → keepIf (p x) x (keep p us) ≡ keep r (keepIf b x (keep q us))
     go ih true e = rw (h x e, ih)
     go ih false e = rw (g x e, ih)
+
+pub keep-append : (p : ℕ → Bool) (a b : List ℕ) → keep p (a ++ b) ≡ keep p a ++ keep p b
+keep-append p [] b = refl
+keep-append p (x ∷ a) b = go (p x) (keep-append p a b)
+  where
+    go : (q : Bool) → keep p (a ++ b) ≡ keep p a ++ keep p b → keepIf q x (keep p (a ++ b)) ≡ keepIf q x (keep p a) ++ keep p b
+    go true ih = rw ih
+    go false ih = ih
 
 pub split : (k m e s : ℕ) → e < 2 ^ m → (us : List ℕ) → members (k + m) (mask m e s) us ≡ group (slotOf k m) s (members m e us)
 split k m e s h us = keep-keep _ _ _ yes′ no′ us

@@ -9,7 +9,7 @@ use lib.ListN.{length}
 use lib.Dec.{eqb, leb}
 use borrow.Author.Tests.{eq-eqb, ne-eqb, eqb-true, eqb-false, le-leb, leb-true}
 use Rattle.inventory.specs.Endings.{one, count, keepIf, keep, different, shared, ending}
-use Rattle.inventory.proofs.Sums.{only}
+use Rattle.inventory.specs.Numbers.{only}
 
 -- each value of xs that stands there twice or more, once: at its last but one place
 abbrev pub twice : List ℕ → List ℕ
@@ -24,7 +24,7 @@ one-true : (b : Bool) → 0 < one b → b ≡ true
 one-true true h = refl
 one-true false h = absurd (omega arith)
 
-eqb-comm : (a b : ℕ) → eqb a b ≡ eqb b a
+pub eqb-comm : (a b : ℕ) → eqb a b ≡ eqb b a
 eqb-comm a b = go (eqb b a) refl
   where
     go : (q : Bool) → eqb b a ≡ q → eqb a b ≡ q

@@ -1,7 +1,7 @@
 -- From the frames heard in a slot to the members of a mask among the UIDs. Idea: a tag's frame, if it speaks, holds its UID; then over all tags by `gather`. Assumes nothing.
 use mathlib.Core.Path.{_≡_, refl, ap, sym, _∙_}
 use mathlib.Core.Bool.{Bool, true, false, _&&_}
-use mathlib.Core.List.{List, [], _∷_, _++_, map}
+use mathlib.Core.List.{List, [], _∷_, map}
 use Prim.Native.Nat.{ℕ, zero, suc, _+_, _^_, _≤_, _<_}
 use native.Mathlib.Omega.{arith}
 use borrow.Author.Tests.{ne-eqb}
@@ -21,17 +21,17 @@ use Rattle.ask.specs.declared.label.Family.{Family}
 use Rattle.label.specs.declared.step.Answer.the-variants.{Found}
 use Rattle.rack.specs.File.{countOf, kindAt, bodyAt}
 use Rattle.rack.specs.Event.{opened}
-use Rattle.inventory.specs.Endings.{keepIf, ending}
+use Rattle.inventory.specs.Endings.{ending}
 use Rattle.inventory.specs.Walk as walk
 use Rattle.inventory.specs.Walk.{slotOutcome, hits, uidAt, uidsTo, uids}
 use Rattle.inventory.specs.Promise.{flat}
-use Rattle.inventory.specs.Sent.{uidAlone}
+use Rattle.inventory.proofs.Sent.{uidAlone}
 use Rattle.label.proofs.Slots.{found-frame}
 use Rattle.rack.proofs.Places.{gather-ext, part-in}
 use Rattle.inventory.proofs.Lists.{map-gather, Each, each-gather}
 use Rattle.inventory.proofs.Flat.{flat-one, flat-none}
-use Rattle.inventory.proofs.Trie.{members, mask}
-use Rattle.inventory.proofs.Walks.{alone}
+use Rattle.inventory.proofs.Trie.{keep-append, members, mask}
+use Rattle.inventory.specs.Numbers.{lone}
 use Rattle.inventory.proofs.Bodies.{called, spoken}
 use Rattle.inventory.proofs.Events.{Fine, tag, tag-long}
 use Rattle.rack.proofs.Rebuilt.{body-long}
@@ -39,25 +39,17 @@ use Rattle.inventory.proofs.Rounds.{asked, asked-size, asked-uid, frame
 
 -- ---- members
 
-members-append : (M c : ℕ) (a b : List ℕ) → members M c (a ++ b) ≡ members M c a ++ members M c b
-members-append M c [] b = refl
-members-append M c (x ∷ a) b = go (eqb (ending M x) c) (members-append M c a b)
-  where
-    go : (q : Bool) → members M c (a ++ b) ≡ members M c a ++ members M c b → keepIf q x (members M c (a ++ b)) ≡ keepIf q x (members M c a) ++ members M c b
-    go true ih = rw ih
-    go false ih = ih
-
 members-gather : (M c n : ℕ) (g : ℕ → List ℕ) → members M c (gather n g) ≡ gather n (λ i. members M c (g i))
 unfolding gather
 members-gather M c zero g = refl
-members-gather M c (suc n) g = members-append M c (gather n g) (g n) ∙ rw (members-gather M c n g)
+members-gather M c (suc n) g = keep-append (λ u. eqb (ending M u) c) (gather n g) (g n) ∙ rw (members-gather M c n g)
 
 -- ---- the UID in a frame
 
 abbrev uidIn : List ℕ → ℕ
 uidIn f = num (part 2 8 f)
 
-pub frame-uid : (b : List ℕ) → 8 ≤ length b → part 2 8 (answerFrame Found b) ≡ part 0 8 b
+frame-uid : (b : List ℕ) → 8 ≤ length b → part 2 8 (answerFrame Found b) ≡ part 0 8 b
 unfolding framedWith
 frame-uid b h = rw (found-frame b) (take-at (part 0 8 b) (bytesOf 2 (crcOf (0 ∷ getD b 8 0 ∷ part 0 8 b))) 8 (length-take-le 8 b h))
 
@@ -82,7 +74,7 @@ opened-alone [] out p = refl
 opened-alone (f ∷ []) out p = part-in f (drop (length f) out) 2 8 (p .0 .long)
 opened-alone (f ∷ g ∷ fs) out p = rw (ne-eqb (length (f ∷ g ∷ fs)) 1 (λ z. omega (arith, z))) refl
 
-alone-flat : (fs : List (List ℕ)) → Each Proper fs → uidAlone fs ≡ flat (alone (map uidIn fs))
+alone-flat : (fs : List (List ℕ)) → Each Proper fs → uidAlone fs ≡ flat (lone (map uidIn fs))
 alone-flat [] p = sym flat-none
 alone-flat (f ∷ []) p = sym (p .0 .bytes) ∙ sym (flat-one (uidIn f))
 alone-flat (f ∷ g ∷ fs) p = sym flat-none
@@ -142,10 +134,10 @@ module _ (r : List ℕ) (fine : Fine r) (family : Family) (m e : ℕ) (short : m
   heard-count = heard-in r fine family m e short low s h .0 ∙ sym (length-map heard uidIn) ∙ ap length frames-members
 
   -- and the only one's UID
-  pub heard-uid : walk.alone (slotOutcome r family m e s) ≡ uidAlone heard
+  heard-uid : walk.alone (slotOutcome r family m e s) ≡ uidAlone heard
   heard-uid =
       let i = heard-in r fine family m e short low s h in
       rw (i .0, i .1) (opened-alone heard (replicate 64 0) frames-proper)
 
-  pub heard-alone : walk.alone (slotOutcome r family m e s) ≡ flat (alone (members (4 + m) (mask m e s) (uids family r)))
-  heard-alone = heard-uid ∙ alone-flat heard frames-proper ∙ ap (λ (us : List ℕ). flat (alone us)) frames-members
+  pub heard-alone : walk.alone (slotOutcome r family m e s) ≡ flat (lone (members (4 + m) (mask m e s) (uids family r)))
+  heard-alone = heard-uid ∙ alone-flat heard frames-proper ∙ ap (λ (us : List ℕ). flat (lone us)) frames-members

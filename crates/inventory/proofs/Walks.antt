@@ -12,22 +12,13 @@ use lib.Pow.{pow-pos, pow-mono}
 use borrow.Author.Tests.{eq-eqb, eqb-true, le-leb}
 use Rattle.frame.specs.Choose.{gather}
 use Rattle.inventory.specs.Endings.{one, count, keepIf, sumTo, ending, shared}
+use Rattle.inventory.specs.Numbers.{only, ifs, lone}
 use Rattle.inventory.proofs.Lists.{Each}
-use Rattle.inventory.proofs.Sums.{only, group, apart, sum-ext, sum-add, sum-front}
+use Rattle.inventory.proofs.Sums.{group, apart, sum-ext, sum-add, sum-front}
 use Rattle.inventory.proofs.Twice.{Distinct, twice-half, shared-twice, same-values}
 use Rattle.inventory.proofs.Trie.{slotOf, members, mask, split, mask-lt, sh, levels, nodes, nodes-levels}
 
 -- ---- lists of slots
-
-abbrev pub ifs : Bool → List ℕ → List ℕ
-ifs true xs = xs
-ifs false xs = []
-
--- what is heard where exactly one answers
-abbrev pub alone : List ℕ → List ℕ
-alone [] = []
-alone (x ∷ []) = x ∷ []
-alone (x ∷ y ∷ xs) = []
 
 pub count-append : (v : ℕ) (a b : List ℕ) → count v (a ++ b) ≡ count v a + count v b
 count-append v [] b = omega arith
@@ -50,9 +41,9 @@ rounds k (suc d) m e us =
     1 + sumTo (2 ^ k) (λ s. only (leb 2 (length (members (k + m) (mask m e s) us))) (rounds k d (k + m) (mask m e s) us))
 
 unfoldable pub listing : ℕ → ℕ → ℕ → ℕ → List ℕ → List ℕ
-listing k zero m e us = gather (2 ^ k) (λ s. alone (members (k + m) (mask m e s) us))
+listing k zero m e us = gather (2 ^ k) (λ s. lone (members (k + m) (mask m e s) us))
 listing k (suc d) m e us =
-    gather (2 ^ k) (λ s. alone (members (k + m) (mask m e s) us))
+    gather (2 ^ k) (λ s. lone (members (k + m) (mask m e s) us))
     ++ gather (2 ^ k) (λ s. ifs (leb 2 (length (members (k + m) (mask m e s) us))) (listing k d (k + m) (mask m e s) us))
 
 -- a round for the mask, and one for each collided mask below it
@@ -81,12 +72,12 @@ whole-ending w M c (x ∷ us) h b = go (whole-ending w M c us (h .1) b) (eqb (en
     go ih false e = omega (arith, ih)
 
 -- what a slot lists: the one that it has, or what its own walk lists
-slot-count : (v : ℕ) (G L : List ℕ) → count v L ≡ count v G → count v (alone G) + count v (ifs (leb 2 (length G)) L) ≡ count v G
+slot-count : (v : ℕ) (G L : List ℕ) → count v L ≡ count v G → count v (lone G) + count v (ifs (leb 2 (length G)) L) ≡ count v G
 slot-count v [] L h = refl
 slot-count v (x ∷ []) L h = omega arith
 slot-count v (x ∷ y ∷ G) L h = rw (le-leb 2 (length (x ∷ y ∷ G)) (omega arith)) (omega (arith, h))
 
-alone-small : (G : List ℕ) → length G ≤ 1 → alone G ≡ G
+alone-small : (G : List ℕ) → length G ≤ 1 → lone G ≡ G
 alone-small [] h = refl
 alone-small (x ∷ []) h = refl
 alone-small (x ∷ y ∷ G) h = absurd (omega arith)
@@ -105,15 +96,15 @@ listing-count w k (suc d) m e us u n b h v =
     let c : w ≤ k * suc d + (k + m) = omega (arith, rw mul-suc at b) in
     let G : ℕ → List ℕ = λ s. members (k + m) (mask m e s) us in
     let L : ℕ → List ℕ = λ s. ifs (leb 2 (length (G s))) (listing k d (k + m) (mask m e s) us) in
-    let p : sumTo (2 ^ k) (λ s. count v (alone (G s)) + count v (L s)) ≡ sumTo (2 ^ k) (λ s. count v (group (slotOf k m) s (members m e us)))
+    let p : sumTo (2 ^ k) (λ s. count v (lone (G s)) + count v (L s)) ≡ sumTo (2 ^ k) (λ s. count v (group (slotOf k m) s (members m e us)))
     = sum-ext (2 ^ k) _ _ (λ s q. rw (← split k m e s h us) (slot-count v (G s) (listing k d (k + m) (mask m e s) us) (listing-count w k d (k + m) (mask m e s) us u n c (mask-lt k m e s h q) v))) in
-    count-append v (gather (2 ^ k) (λ s. alone (G s))) (gather (2 ^ k) L)
-    ∙ omega (arith, count-gather v (2 ^ k) (λ s. alone (G s)), count-gather v (2 ^ k) L, sum-add (2 ^ k) (λ s. count v (alone (G s))) (λ s. count v (L s)), p, count-apart k m v (members m e us))
+    count-append v (gather (2 ^ k) (λ s. lone (G s))) (gather (2 ^ k) L)
+    ∙ omega (arith, count-gather v (2 ^ k) (λ s. lone (G s)), count-gather v (2 ^ k) L, sum-add (2 ^ k) (λ s. count v (lone (G s))) (λ s. count v (L s)), p, count-apart k m v (members m e us))
 
 -- ---- the promises
 
 -- every UID ends in no bits
-all-end : (us : List ℕ) → members 0 0 us ≡ us
+pub all-end : (us : List ℕ) → members 0 0 us ≡ us
 all-end [] = refl
 all-end (u ∷ us) = rw (mod-one u, all-end us)
 

@@ -2,4 +2,4 @@
 pub mod Endings
 pub mod Walk
 pub mod Promise
-pub mod Sent
+pub mod Numbers

@@ -1,4 +1,6 @@
 // The inventory walk.
+pub mod clear;
 pub mod round;
+pub mod taking;
 pub mod twins;
 pub mod walk;

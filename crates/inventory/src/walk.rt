@@ -1,17 +1,20 @@
 // The walk: a round, and then each collided slot carried through.
+use crate::clear::clear_rack;
+use crate::round::leading;
 use crate::round::play_round;
+use crate::taking::collect;
+use crate::taking::narrow;
 use crate::twins::has_twins;
 use ask::label::Family;
-use frame::uid::longer_mask;
 use rack::file::count;
 use rack::file::judge;
 ghost use mathlib.Core.Path.{_≡_};
-ghost use Prim.Native.Nat.{_+_, _*_, _≤_, _<_, _^_};
+ghost use Prim.Native.Nat.{_+_, _≤_, _<_, _^_};
 ghost use lib.ListN.{length};
 ghost use lib.Seq.{sets};
-ghost use Rattle.rack.specs.Facts.{RackFine};
-ghost use Rattle.inventory.specs.Walk.{explore, depth, refusalOf, walkOf};
-ghost use Rattle.inventory.specs.Promise.{Promise};
+ghost use Rattle.inventory.specs.Walk.{depth, refusalOf, walkOf, uids};
+ghost use Rattle.inventory.specs.Numbers.{First, listOf, roundsOf};
+ghost use Rattle.inventory.specs.Promise.{flat, Promise};
 
 // What a walk comes back with: the refusal's number or 0, how many labels the list holds, how many rounds it took.
 #[repr(C)]
@@ -26,59 +29,72 @@ struct Went {
     rounds: usize,
 }
 
-// Carries a mask through: a round, and then each slot with a collision. 64 less the mask length falls; at 60 bits the round is the last.
-fn carry(rack: &mut [u8], list: &mut [u8], family: Family, m: u8, mask: u64, cursor: usize) -> Went
-    requires room { ⌜ cursor + length (explore (depth m) (now rack) family m mask .found) ≤ length (now list) ⌝ }
-    requires few { ⌜ explore (depth m) (now rack) family m mask .rounds < 2 ^ 64 ⌝ }
-    requires rack { ⌜ RackFine (now rack) ⌝ }
-    requires mask { ⌜ (m ≤ 60) × (mask < 2 ^ m) ⌝ }
-    ensures rack { λ _. ⌜ now (rack .exit) ≡ explore (depth m) (now (rack .entry)) family m mask .rack ⌝ }
-    ensures list { λ _. ⌜ now (list .exit) ≡ sets (now (list .entry)) cursor (explore (depth m) (now (rack .entry)) family m mask .found) ⌝ }
-    ensures cursor { λ r. ⌜ r .cursor ≡ cursor + length (explore (depth m) (now (rack .entry)) family m mask .found) ⌝ }
-    ensures rounds { λ r. ⌜ r .rounds ≡ explore (depth m) (now (rack .entry)) family m mask .rounds ⌝ }
-    ensures good { λ _. ⌜ RackFine (now (rack .exit)) ⌝ }
+// Carries a branch through: a round, and then each slot with a collision. 64 less the mask length falls; at 60 bits the round is the last.
+// After the round the UIDs stand slot by slot, so that a slot's are a part of them.
+fn carry(us: &mut [u64], list: &mut [u8], m: u8, cursor: usize) -> Went
+    requires room { ⌜ cursor + length (flat (listOf (depth m) m (now us))) ≤ length (now list) ⌝ }
+    requires few { ⌜ roundsOf (depth m) m (now us) < 2 ^ 64 ⌝ }
+    requires mask { ⌜ m ≤ 60 ⌝ }
+    ensures list { λ _. ⌜ now (list .exit) ≡ sets (now (list .entry)) cursor (flat (listOf (depth m) m (now (us .entry)))) ⌝ }
+    ensures cursor { λ r. ⌜ r .cursor ≡ cursor + length (flat (listOf (depth m) m (now (us .entry)))) ⌝ }
+    ensures rounds { λ r. ⌜ r .rounds ≡ roundsOf (depth m) m (now (us .entry)) ⌝ }
 {
-    let mut hits = [0u8; 16];
-    if 56 < m {
-        let end = play_round(rack, list, family, m, mask, cursor, &mut hits);
-        return Went {
-            cursor: end,
-            rounds: 1,
-        };
-    }
-    let mut at = play_round(rack, list, family, m, mask, cursor, &mut hits);
+    let mut at = play_round(us, m, list, cursor);
     let mut rounds: usize = 1;
-    let mut left: u8 = 16;
-    let bits = m as u32;
-    while 0 < left {
-        let slot = 16 - left;
-        let i = slot as usize;
-        if 1 < hits[i] {
-            let next = longer_mask(mask, bits, slot);
-            let went = carry(rack, list, family, m + 4, next, at);
+    if 56 < m {
+        return Went { cursor: at, rounds };
+    }
+    let n = us.len();
+    let mut from: usize = 0;
+    while from < n {
+        let h = leading(&us[from..n], m);
+        let to = from + h;
+        if 1 < h {
+            let went = carry(&mut us[from..to], list, m + 4, at);
             at = went.cursor;
             rounds += went.rounds;
         }
-        left -= 1;
+        from = to;
     }
     Went { cursor: at, rounds }
 }
 
-// The number of the refusal that applies, or 0.
-fn refuse(rack: &[u8], room: usize) -> u8
-    ensures { λ r. ⌜ r ≡ refusalOf (now (rack .entry)) room ⌝ }
+struct Begun {
+    number: u8,
+    labels: usize,
+}
+
+// Before the first round: the number of the refusal that applies, or 0, and then the UIDs of the labels that the family lets answer, and how many.
+// Twins are sought among all labels that take part, whatever the family.
+fn begin(rack: &[u8], family: Family, room: usize, us: &mut [u64]) -> Begun
+    requires { ⌜ 64 ≤ length (now us) ⌝ }
+    ensures { λ r. ⌜ r .number ≡ refusalOf (now (rack .entry)) room ⌝ }
+    ensures { λ r. ⌜ (r .number ≡ 0 → First (uids family (now (rack .entry))) (now (us .exit)) (r .labels)) ⌝ }
 {
     let v = judge(rack);
     if v.number != 0 {
-        return 1;
+        return Begun {
+            number: 1,
+            labels: 0,
+        };
     }
     if room < 8 * count(rack) {
-        return 5;
+        return Begun {
+            number: 5,
+            labels: 0,
+        };
     }
-    if has_twins(rack) {
-        return 6;
+    let all = collect(rack, Family::Any, us);
+    if has_twins(&us[0..all]) {
+        return Begun {
+            number: 6,
+            labels: 0,
+        };
     }
-    0
+    Begun {
+        number: 0,
+        labels: narrow(rack, family, us, all),
+    }
 }
 
 // Walks a rack: lists every label in state 1 or 3 that the family lets answer.
@@ -88,15 +104,18 @@ pub fn walk(rack: &mut [u8], family: Family, list: &mut [u8]) -> Walked
     ensures { λ _. ⌜ now (list .exit) ≡ walkOf (now (rack .entry)) family (now (list .entry)) .list ⌝ }
     ensures { λ r. ⌜ (r .number ≡ 0 → Promise family (now (rack .entry)) (now (rack .exit)) (now (list .entry)) (now (list .exit)) r) ⌝ }
 {
-    let refusal = refuse(rack, list.len());
-    if refusal != 0 {
+    let mut us = [0u64; 64];
+    let begun = begin(rack, family, list.len(), &mut us);
+    if begun.number != 0 {
         return Walked {
-            number: refusal,
+            number: begun.number,
             labels: 0,
             rounds: 0,
         };
     }
-    let went = carry(rack, list, family, 0, 0, 0);
+    let n = begun.labels;
+    clear_rack(rack);
+    let went = carry(&mut us[0..n], list, 0, 0);
     Walked {
         number: 0,
         labels: went.cursor / 8,

@@ -1,86 +1,58 @@
--- At the loop's head none of the first i tags is a twin of one before it, and the place is that of body i.
-use mathlib.Core.Path.{_≡_, _∙_}
-use mathlib.Core.List.{List}
-use Prim.Native.Nat.{ℕ, _-_, _<_, _≤_}
+-- At the loop's head none of the first i is one of those behind it.
+use Prim.Native.Nat.{_-_}
 use native.Mathlib.Omega.{arith}
-use Rattle.ask.specs.declared.label.Family.the-variants.{Any}
-use Rattle.inventory.specs.Walk.{uidAt, uidsTo, among}
-use Rattle.inventory.proofs.Same.{Along, Here, repeats, along-none, here-room, here-asks, here-tag, here-more, here-found, along-done, twins-any}
+use Rattle.inventory.proofs.Repeated.{Comparing, comparing-none, comparing-found, comparing-more, comparing-done}
 use Rattle.inventory.proofs.twins.has_twins.Statement.{statement}
 use Rattle.inventory.proofs.twins.has_twins.Tie as tie
 
 abbrev Inv-loop : tie.InvT-loop
-Inv-loop rack n at₀ i₀ at i = Along rack n (repeats rack) at i
+Inv-loop us n i₀ i = Comparing us i
 
 abbrev μ-loop : tie.MeasureT-loop
-μ-loop rack n at₀ i₀ at i = n - i
-
-abbrev start : tie.In-loop Inv-loop μ-loop → tie.Start Inv-loop μ-loop
-start c = c .before .before .before .before
-
--- how many tags there are
-few : (c : tie.After-count Inv-loop μ-loop) → c .count .result ≤ 64
-few c = omega (arith, c .count .ensures, c .before .before .pre .head .few)
-
--- the tag that the pass comes to
-here : (c : tie.In-loop Inv-loop μ-loop) → Here (start c .args .rack .now) (c .before .before .count .result) (repeats (start c .args .rack .now)) (c .before .loop .at) (c .before .loop .i)
-here c = record { fine = start c .pre; most = omega (arith, c .before .before .count .ensures); run = c .before .loop .inv; more = c .loop-test .taken }
-
-low : (c : tie.In-loop Inv-loop μ-loop) → c .before .loop .i < 64
-low c = here-room (here c) .0
-
--- what is said of it
-says : (c : tie.After-is-twin Inv-loop μ-loop) → c .is-twin .result ≡ repeats (start (c .before .before .before) .args .rack .now) (c .before .before .before .before .loop .i)
-says c =
-    let l = c .before .before .before in
-    here-tag (here l) (c .before .length-of .ensures .0) (λ (k : ℕ) (x : List ℕ). among (uidAt Any k x) (uidsTo Any (start l .args .rack .now) (l .before .loop .i))) (c .is-twin .ensures)
-
-count-requires : tie.Need-count-requires Inv-loop μ-loop
-count-requires c κs = c .before .pre .head .two-bytes
-
-mul-at : tie.Need-mul-at Inv-loop μ-loop
-mul-at c = omega (arith, few c)
-
-add-at : tie.Need-add-at Inv-loop μ-loop
-add-at c = omega (arith, few c)
+μ-loop us n i₀ i = n - i
 
 loop-holds : tie.Need-loop-holds Inv-loop μ-loop
-loop-holds c = along-none _ _ _ (c .count .ensures)
+loop-holds c = comparing-none _
 
-mul-kind : tie.Need-mul-kind Inv-loop μ-loop
-mul-kind c = omega (arith, low c)
+add-next : tie.Need-add-next Inv-loop μ-loop
+add-next c = omega (arith, c .loop-test .taken, c .before .before .before .good .0)
 
-add-kind : tie.Need-add-kind Inv-loop μ-loop
-add-kind c = omega (arith, low c)
+mul-is-among : tie.Need-mul-is-among Inv-loop μ-loop
+mul-is-among c = omega (arith, c .loop-test .taken, c .before .before .before .good .0)
 
-shared-slice-read-kind : tie.Need-shared-slice-read-kind Inv-loop μ-loop
-shared-slice-read-kind c = omega (arith, here-room (here (c .before)))
+sub-is-among : tie.Need-sub-is-among Inv-loop μ-loop
+sub-is-among c = omega (arith, c .loop-test .taken)
 
-length-of-requires : tie.Need-length-of-requires Inv-loop μ-loop
-length-of-requires c κs = here-room (here (c .before))
+part-is-among-start : tie.Need-part-is-among-start Inv-loop μ-loop
+part-is-among-start c = omega (arith, c .loop-test .taken)
 
-is-twin-requires : tie.Need-is-twin-requires Inv-loop μ-loop
-is-twin-requires c κs = let l = c .before .before in (here-asks (here l) (c .length-of .ensures .0), (start l .pre, omega (arith, here l .more, here l .most)))
+part-is-among-end : tie.Need-part-is-among-end Inv-loop μ-loop
+part-is-among-end c = omega arith
+
+mul-is-among-2 : tie.Need-mul-is-among-2 Inv-loop μ-loop
+mul-is-among-2 c = omega (arith, c .before .loop-test .taken, c .before .before .before .before .good .0)
+
+shared-slice-read-is-among : tie.Need-shared-slice-read-is-among Inv-loop μ-loop
+shared-slice-read-is-among c = c .before .before .loop-test .taken
+
+is-among-requires : tie.Need-is-among-requires Inv-loop μ-loop
+is-among-requires c κs = tt
 
 returns : tie.Need-returns Inv-loop μ-loop
-returns c = here-found (here (c .before .before .before .before)) (c .before .before .length-of .ensures .0) (says (c .before)) (c .if1 .taken) ∙ twins-any (c .before .before .before .before .before .before .before .before .args .rack .now) (c .before .before .before .before .before .before .count .ensures)
-
-add-at-2 : tie.Need-add-at-2 Inv-loop μ-loop
-add-at-2 c =
-    let l = c .before .before .before .before in
-    omega (arith, here-asks (here l) (c .before .before .length-of .ensures .0) .0, start l .good .0)
-
-add-i : tie.Need-add-i Inv-loop μ-loop
-add-i c = omega (arith, low (c .before .before .before .before))
+returns c =
+    comparing-found (c .before .before .before .before .before .loop .inv) (c .before .before .before .before .loop-test .taken) (c .before .is-among .ensures)
+    (c .if1 .taken)
 
 loop-less : tie.Need-loop-less Inv-loop μ-loop
 loop-less c = omega (arith, c .before .before .before .before .loop-test .taken)
 
 loop-again : tie.Need-loop-again Inv-loop μ-loop
-loop-again c = here-more (here (c .before .before .before .before)) (c .before .before .length-of .ensures .0) (says (c .before)) (c .if1 .left)
+loop-again c =
+    comparing-more (c .before .before .before .before .before .loop .inv) (c .before .before .before .before .loop-test .taken) (c .before .is-among .ensures)
+    (c .if1 .left)
 
 returns-2 : tie.Need-returns-2 Inv-loop μ-loop
-returns-2 c = along-done (c .before .loop .inv) (c .loop-test .left) ∙ twins-any (c .before .before .before .before .args .rack .now) (c .before .before .count .ensures)
+returns-2 c = comparing-done (c .before .loop .inv) (c .loop-test .left)
 
 pub has-twins-spec : {M : Type 1} → statement M
 has-twins-spec =
@@ -88,18 +60,16 @@ has-twins-spec =
     (tie.spec
     Inv-loop
     μ-loop
-    count-requires
-    mul-at
-    add-at
     loop-holds
-    mul-kind
-    add-kind
-    shared-slice-read-kind
-    length-of-requires
-    is-twin-requires
+    add-next
+    mul-is-among
+    sub-is-among
+    part-is-among-start
+    part-is-among-end
+    mul-is-among-2
+    shared-slice-read-is-among
+    is-among-requires
     returns
-    add-at-2
-    add-i
     loop-less
     loop-again
     returns-2)

@@ -1,8 +1,8 @@
 -- Kind 1 and state 1 or 3: the state is byte 14 of the body.
 use borrow.Author.Needs.{needs}
-use Rattle.inventory.proofs.Same.{takes-none, takes-one, takes-three}
-use Rattle.inventory.proofs.twins.takes_part.Statement.{statement}
-use Rattle.inventory.proofs.twins.takes_part.Tie as tie
+use Rattle.inventory.proofs.Gathered.{takes-none, takes-one, takes-three}
+use Rattle.inventory.proofs.taking.takes_part.Statement.{statement}
+use Rattle.inventory.proofs.taking.takes_part.Tie as tie
 
 returns : tie.Need-returns
 returns c = let s = c .before in takes-none (s .args .rack .now) (s .args .at) (s .args .len) (s .args .kind) (s .pre .1) (c .if1 .taken)

@@ -1,0 +1,28 @@
+-- The two calls of a walk, played without their frames: what the laws of a round speak of. Assumes nothing.
+use mathlib.Core.List.{List, [], _∷_}
+use Prim.Native.Nat.{ℕ}
+use lib.ListN.{replicate}
+use Rattle.frame.specs.Number.{part}
+use Rattle.ask.specs.Label.{bare}
+use Rattle.ask.specs.declared.label.Call.{Call}
+use Rattle.chip.specs.declared.request.Order.the-variants as o
+use Rattle.rack.specs.File.{countOf}
+use Rattle.rack.specs.Event.{Signal, nextRack, answers}
+
+abbrev pub signal : Call → Signal
+signal call = record { request = bare call; bytes = []; order = o.Ignored }
+
+abbrev pub draws : List ℕ → List ℕ
+draws r = replicate (countOf r) 0
+
+unfoldable pub after : List ℕ → Call → List ℕ
+after r call = nextRack r (signal call) (draws r)
+
+unfoldable pub heard : List ℕ → Call → List (List ℕ)
+heard r call = answers r (signal call) (draws r)
+
+-- the UID in the only answer: its bytes 2 to 9
+abbrev pub uidAlone : List (List ℕ) → List ℕ
+uidAlone [] = []
+uidAlone (f ∷ []) = part 2 8 f
+uidAlone (f ∷ g ∷ fs) = []
