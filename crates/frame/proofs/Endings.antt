@@ -6,10 +6,8 @@ use mathlib.Core.Bool.{Bool, true, false, _&&_}
 use mathlib.Core.List.{List}
 use Prim.Native.Nat.{ℕ, _+_, _*_, _/_, _%_, _^_, _≤_, _<_}
 use native.Mathlib.Nat.{one-mul, mod-lt, mod-eq-of-lt, div-eq-of-lt, lt-of-lt-of-le, add-comm}
-use native.Mathlib.Omega.{arith}
-use lib.Arith.{digits-lt}
 use lib.Dec.{eqb}
-use lib.Pow.{pow-pos, pow-lt, pow-mono, pow-add, mod-pow-add, low, high}
+use lib.Pow.{pow-pos, pow-lt, pow-mono, mod-pow-add, low, high}
 use borrow.Author.Tests.{eqb-true, eq-eqb}
 use Rattle.frame.specs.Number.{num, part}
 use Rattle.frame.specs.Ending.{endsIn, endsInSlot, longer, bytesFor, maskAt}
@@ -35,13 +33,6 @@ slot-yes u mask m slot e y a b d = rw (b, a, d, ← e, y)
 pub slot-no : (u : List ℕ) (mask m slot : ℕ) {t : Bool} → t ≡ endsIn u mask m → t ≡ false → false ≡ endsInSlot u mask m slot
 unfolding endsInSlot
 slot-no u mask m slot e y = rw (← e, y)
-
--- a mask with a slot above it
-pub longer-lt : (mask m slot : ℕ) → mask < 2 ^ m → slot < 16 → longer mask m slot < 2 ^ (m + 4)
-longer-lt mask m slot h l = rw (add-comm m 4, pow-add 2 4 m) (digits-lt l h)
-
-pub longer-fits : (mask m slot : ℕ) → m ≤ 60 → mask < 2 ^ m → slot < 16 → longer mask m slot < 2 ^ 64
-longer-fits mask m slot k h l = lt-of-lt-of-le (longer-lt mask m slot h l) (pow-mono {j = 64} (omega arith))
 
 slot-longer : (n mask m slot : ℕ) → mask < 2 ^ m → (n % 2 ^ (4 + m) ≡ slot * 2 ^ m + mask) ↔ ((n % 2 ^ m ≡ mask) × (n / 2 ^ m % 16 ≡ slot))
 slot-longer n mask m slot h = (

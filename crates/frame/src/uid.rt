@@ -7,7 +7,7 @@ ghost use Prim.Native.Nat.{_+_, _≤_, _<_, _^_, _/_, _%_};
 ghost use lib.Dec.{eqb};
 ghost use lib.ListN.{length};
 ghost use Rattle.frame.specs.Number.{num, part};
-ghost use Rattle.frame.specs.Ending.{endsIn, endsInSlot, longer, bytesFor, maskAt};
+ghost use Rattle.frame.specs.Ending.{endsIn, endsInSlot, bytesFor, maskAt};
 
 // A UID as one number.
 pub fn uid_number(u: [u8; 8]) -> u64
@@ -82,14 +82,6 @@ pub fn ends_in_slot(u: [u8; 8], mask: u64, m: u32, slot: u8) -> bool
         return high_bits(uid_number(u), m) % 16 == wide(slot);
     }
     false
-}
-
-// The mask with a slot above it: four bits longer.
-pub fn longer_mask(mask: u64, m: u32, slot: u8) -> u64
-    requires { ⌜ (m ≤ 60) × ((mask < 2 ^ m) × (slot < 16)) ⌝ }
-    ensures { λ r. ⌜ (r ≡ longer mask m slot) × (r < 2 ^ (m + 4)) ⌝ }
-{
-    wide(slot) * pow2(m) + mask
 }
 
 // The m bits of a mask at a place of a frame, what is above them ignored.
