@@ -27,7 +27,8 @@ static struct gen_event e;
 static uint8_t ours[GEN_RACK_ROOM], theirs[GEN_RACK_ROOM];
 static uint8_t out_1[GEN_ANSWER_ROOM + 1000], out_2[GEN_ANSWER_ROOM + 1000];
 static uint64_t seed_now;
-static unsigned long cases, events, walks, commands;
+static unsigned long cases, events, walks, carried, commands;
+static uint32_t longest;
 
 static void print_bytes(const char *name, const uint8_t *bytes, size_t len)
 {
@@ -92,6 +93,8 @@ static void compare_walk(const uint8_t *rack, size_t len)
     other_walk(theirs, len, has_afi, afi, out_2, list_len, &b);
     if (a.number != b.number || a.labels != b.labels || a.rounds != b.rounds)
         apart("result of a walk");
+    carried += a.rounds > 1;
+    longest = a.rounds > longest ? a.rounds : longest;
     if (!outputs_equal())
         apart("list of a walk");
     if (memcmp(ours, theirs, len) != 0)
@@ -184,6 +187,7 @@ int main(int argc, char **argv)
     uint64_t racks = argc > 2 ? strtoull(argv[2], NULL, 10) : 300;
     for (uint64_t i = 0; i < racks; i++)
         one_rack(first + i);
-    printf("%lu events, %lu walks, %lu commands and answers: no difference\n", events, walks, commands);
+    printf("%lu events, %lu walks (%lu of more than one round, the longest of %u), %lu commands and answers: no difference\n", events, walks, carried,
+           (unsigned)longest, commands);
     return 0;
 }

@@ -63,13 +63,22 @@ static void put_number(uint8_t *bytes, uint64_t number, size_t len)
 struct family {
     uint64_t uids[REF_TAGS_MOST];
     size_t count;
+    int twins;             /* may two have one UID? */
     unsigned slot;
     unsigned bits;
     uint64_t mask;
     uint8_t afi;
 };
 
-/* A new UID: fresh, a twin, or one that shares a long ending with another. */
+static int known(const struct family *f, uint64_t uid)
+{
+    for (size_t i = 0; i < f->count; i++)
+        if (f->uids[i] == uid)
+            return 1;
+    return 0;
+}
+
+/* A new UID: fresh, one that shares a long ending with another, or, where the rack may have them, a twin. */
 static uint64_t new_uid(struct gen *g, struct family *f)
 {
     uint64_t uid = gen_u64(g);
@@ -92,6 +101,8 @@ static uint64_t new_uid(struct gen *g, struct family *f)
         else
             uid = (other & ref_low_bits(keep)) | (uid & ~ref_low_bits(keep));
     }
+    while (!f->twins && known(f, uid))
+        uid = gen_u64(g);
     if (f->count < REF_TAGS_MOST)
         f->uids[f->count++] = uid;
     return uid;
@@ -100,6 +111,7 @@ static uint64_t new_uid(struct gen *g, struct family *f)
 static void new_family(struct gen *g, struct family *f)
 {
     memset(f, 0, sizeof *f);
+    f->twins = gen_chance(g, 40);
     f->slot = gen_below(g, 16);
     f->bits = gen_chance(g, 40) ? 0 : gen_below(g, 61);
     f->mask = gen_u64(g) & ref_low_bits(f->bits);
