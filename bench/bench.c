@@ -114,6 +114,14 @@ static uint64_t worst(int i)
     return (uint64_t)(i / 2) | (uint64_t)(i % 2 ? 0xD : 0xE) << 60;
 }
 
+/* UIDs in no order, no number twice. */
+static uint64_t drawn(int i)
+{
+    uint64_t z = (uint64_t)(i + 1) * 0x9E3779B97F4A7C15u;
+    z = (z ^ z >> 30) * 0xBF58476D1CE4E5B9u;
+    return z ^ z >> 27;
+}
+
 /* n ready labels. */
 static void make(int n, unsigned blocks, unsigned size, uint64_t (*uid)(int))
 {
@@ -163,7 +171,7 @@ static void row(const char *what, int n, void (*ours)(void), void (*theirs)(void
         a = x < a ? x : a;
         b = y < b ? y : b;
     }
-    printf("| %s | %d | %.0f | %.0f | %.2f |\n", what, n, a * 1e9, b * 1e9, a / b);
+    printf("| %s | %d | %.0f | %.0f | %.*f |\n", what, n, a * 1e9, b * 1e9, a / b < 0.1 ? 4 : 2, a / b);
 }
 
 static void sums(size_t len)
@@ -222,5 +230,6 @@ int main(void)
     events(64, 28, 32);
     walks("best", best);
     walks("worst", worst);
+    walks("drawn", drawn);
     return 0;
 }
