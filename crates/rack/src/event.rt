@@ -31,10 +31,10 @@ pub struct Report {
 }
 
 // What a pass over the tags heard: how many answered, and, of an answer that is alone, from whom.
-pub struct Heard {
-    pub answered: u8,
-    pub who: usize,
-    pub said: Said,
+struct Heard {
+    answered: u8,
+    who: usize,
+    said: Said,
 }
 
 // The tag whose body lies at a place for a length takes its step: that part of the rack is lent on, and no other byte changes.
@@ -58,7 +58,7 @@ fn step_at(
 }
 
 // Every tag takes its step in turn: the request, the bytes and the order are decoded once. Draw i is entry i's.
-pub fn play(rack: &mut [u8], request: Request, bytes: &[u8], order: Order, draws: &[u8]) -> Heard
+fn play(rack: &mut [u8], request: Request, bytes: &[u8], order: Order, draws: &[u8]) -> Heard
     requires { ⌜ RackFine (now rack) ⌝ }
     requires { ⌜ length (now draws) ≡ countOf (now rack) ⌝ }
     ensures { λ r. ⌜ HeardOf (now (rack .entry)) (record { request = request; bytes = now (bytes .entry); order = order }) (now (draws .entry)) (countOf (now (rack .entry))) (r .answered) (r .who) (r .said) ⌝ }
