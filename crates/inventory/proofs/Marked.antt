@@ -16,6 +16,7 @@ use Rattle.frame.specs.CheckSum.{crcBit, crcBits, crcByte, crcRun, crcWith, crc
 use Rattle.frame.specs.Ending.{endsIn, endsInSlot}
 use Rattle.chip.specs.Write.{written, countDown, lockDown, reloads, locked}
 use Rattle.frame.proofs.Bools.{and-both}
+use Rattle.label.specs.Locks.{lockRoom, locksVerdict}
 use Rattle.label.specs.Body.{headRules, slotRules, over, maskVerdict, labelRules}
 use Rattle.label.specs.Slots.{on}
 use Rattle.label.specs.Step.{passes}
@@ -88,7 +89,7 @@ unfolding uidsTo uidAt on passes gather startOf
 uids-k = refl
 
 pub accepts-k : refusalOf rack-k 16 ≡ 0
-unfolding refusalOf verdictOf headVerdict entryVerdict lengthFits bodyVerdict bodyRules moved endVerdict labelRules headRules slotRules maskVerdict over byteVerdict firstOf twins anyOf uidsTo uidAt on passes gather startOf
+unfolding refusalOf verdictOf headVerdict entryVerdict lengthFits bodyVerdict bodyRules moved endVerdict labelRules headRules lockRoom locksVerdict slotRules maskVerdict over byteVerdict firstOf twins anyOf uidsTo uidAt on passes gather startOf
 accepts-k = refl
 
 abbrev rack-l : List ℕ

@@ -20,10 +20,11 @@ use Rattle.label.specs.declared.step.Answer.{Answer}
 use Rattle.label.specs.declared.step.Answer.the-variants as a
 use Rattle.label.specs.declared.step.Stepped.{Stepped}
 use Rattle.label.specs.Step.{ended}
-use Rattle.label.specs.Body.{loadOf, storeOf, worked, stepped, nextLabel, saidLabel, named, Sized, sizeOf, blockAt, lockAt}
+use Rattle.label.specs.Locks.{lockOn}
+use Rattle.label.specs.Body.{loadOf, storeOf, worked, stepped, nextLabel, saidLabel, named, Sized, sizeOf, blockAt}
 use Rattle.label.specs.Answer.{answerFrame, blockBytes, Told}
 use Rattle.label.proofs.Room.{sized-long, block-fits, block-after}
-use Rattle.label.proofs.Stored.{stored-length, stored-between, stored-above, stored-uid, stored-numbers, stored-part, stored-place, stored-dsfid, stored-afi}
+use Rattle.label.proofs.Stored.{stored-length, stored-between, stored-lock, stored-uid, stored-numbers, stored-part, stored-place, stored-dsfid, stored-afi}
 use Rattle.label.proofs.Laying.{found-length, info-length}
 use Rattle.label.proofs.Ways.{Way, stays, offs, wakes, moves, starts, says, hushes, selects, readies, drops, writes, locks, afis, dsfids, afiLocks, dsfidLocks, way, Calm}
 
@@ -46,7 +47,7 @@ frame-stays (a.Block n lock) b l s d f =
     rw (
       stored-place b l n,
       stored-between b l 12 (omega arith) (omega arith),
-      stored-above b l (lockAt n) (omega arith),
+      stored-lock b l n,
       stored-part b l (blockAt b n) (sizeOf b) (omega (arith, block-after b n)),
     )
 frame-stays a.Info b l s d f =
@@ -136,8 +137,8 @@ frame-short (a.Block n lock) b s z t =
     let x = part (blockAt b n) (sizeOf b) b in
     omega (
       arith,
-      length-framed 0xFFFF true (0 ∷ ((if lock then getD b (lockAt n) 0 ∷ [] else []) ++ x)),
-      lock-length lock (getD b (lockAt n) 0) x,
+      length-framed 0xFFFF true (0 ∷ ((if lock then lockOn n b ∷ [] else []) ++ x)),
+      lock-length lock (lockOn n b) x,
       length-part (blockAt b n) (sizeOf b) b (block-fits b n s t),
     )
 frame-short a.Info b s z t = omega (arith, info-length b (omega (arith, sized-long b s)))

@@ -19,9 +19,11 @@ use Rattle.frame.specs.Number.{num, part, Bytes}
 use Rattle.frame.specs.Judge.{fine, bad, firstOf, byteVerdict}
 use Rattle.frame.proofs.Bools.{below-or-not, if-either, if-both}
 use Rattle.frame.proofs.Numbers.{bytes-part}
-use Rattle.frame.proofs.Verdicts.{if-fine, else-fine, not-none, first-none, first-suc, first-each, first-all, bytes-fine, bytes-good}
-use Rattle.label.specs.Body.{blocksOf, sizeOf, Sized, headRules, bitsRules, slotRules, over, maskVerdict, labelRules}
+use Rattle.frame.proofs.Verdicts.{if-fine, else-fine, not-none, first-each, first-all, bytes-fine, bytes-good}
+use Rattle.label.specs.Locks.{lockRoom, locksVerdict}
+use Rattle.label.specs.Body.{wantedOf, Sized, headRules, bitsRules, slotRules, over, maskVerdict, labelRules}
 use Rattle.label.specs.Facts.{LabelFine}
+use Rattle.label.proofs.Locked.{room-some, locks-tell, locks-keep, locks-place, first-place, byte-place}
 use Rattle.label.proofs.Judging.{head-sized, head-long, head-fine, verdict-fine}
 
 -- ---- masks
@@ -125,7 +127,7 @@ head-tells : (b : List ℕ) → headRules b .number ≡ 0 → HeadFine b
 unfolding headRules
 head-tells b e =
     let p = if-fine (ltb 3 (getD b 10 0)) 13 10 _ (not-none 12) e in
-    let q = if-fine (not (eqb (length b) (32 + blocksOf b + blocksOf b * sizeOf b))) 13 11 _ (not-none 12) (p .1) in
+    let q = if-fine (not (eqb (length b) (wantedOf b))) 13 11 _ (not-none 12) (p .1) in
     let r = if-fine (ltb 31 (getD b 12 0)) 13 12 _ (not-none 12) (q .1) in
     let s = if-fine (ltb 3 (getD b 14 0)) 13 14 fine (not-none 12) (r .1) in
     record {
@@ -139,7 +141,7 @@ record Told (b : List ℕ) : Type 0 where
   slot : slotRules b .number ≡ 0
   mask : firstOf 8 (maskVerdict b) .number ≡ 0
   zeros : firstOf 7 (byteVerdict b 25 0) .number ≡ 0
-  locks : firstOf (blocksOf b) (byteVerdict b 32 1) .number ≡ 0
+  locks : locksVerdict b .number ≡ 0
 
 told : (b : List ℕ) → labelRules b .number ≡ 0 → Told b
 unfolding labelRules
@@ -166,7 +168,7 @@ rules-fine b bs e =
       bits = s .bits;
       mask = mask-tells b bs (t .mask);
       zeros = bytes-fine b 25 0 7 (t .zeros);
-      lockBytes = bytes-fine b 32 1 (blocksOf b) (t .locks);
+      locked = locks-tell b (t .locks);
     }
 
 pub sized-of : (b : List ℕ) → labelRules b .number ≡ 0 → Sized b
@@ -178,6 +180,7 @@ size-of b e = head-tells b (told b e .head) .size
 pub long-enough : (b : List ℕ) → Sized b → 34 ≤ length b
 unfolding Sized
 long-enough b s =
+    let r = room-some b in
     let p : 0 < (getD b 11 0 + 1) * (getD b 12 0 + 1) = mul-pos {m = getD b 11 0 + 1} {n = getD b 12 0 + 1} (omega arith) (omega arith) in
     omega arith
 
@@ -215,23 +218,13 @@ fine-rules b bs l =
       slot-keeps b l,
       mask-keeps b bs (l .mask),
       bytes-good b 25 0 7 (l .zeros),
-      bytes-good b 32 1 (blocksOf b) (l .lockBytes),
+      locks-keep b (l .locked),
     )
 
 -- ---- where an offence is
 
 abbrev Within : ℕ → Verdict → Type 0
 Within k v = v .place ≤ k
-
-first-place : (f : ℕ → Verdict) (k n : ℕ) → ((i : ℕ) → i < n → f i .place ≤ k) → firstOf n f .place ≤ k
-first-place f k zero h = rw (first-none f) (omega arith)
-first-place f k (suc n) h =
-    rw (first-suc f n)
-    (if-both (Within k) (eqb (firstOf n f .number) 0) (h n (omega arith)) (first-place f k n (λ i l. h i (omega arith))))
-
-byte-place : (b : List ℕ) (at most j k : ℕ) → at + j ≤ k → byteVerdict b at most j .place ≤ k
-unfolding byteVerdict
-byte-place b at most j k h = if-both (Within k) (ltb most (getD b (at + j) 0)) h (omega arith)
 
 mask-place : (b : List ℕ) (j k : ℕ) → 17 + j ≤ k → maskVerdict b j .place ≤ k
 unfolding maskVerdict
@@ -241,7 +234,7 @@ head-place : (b : List ℕ) → headRules b .place ≤ 14
 unfolding headRules
 head-place b =
     if-both (Within 14) (ltb 3 (getD b 10 0)) (omega arith)
-    (if-both (Within 14) (not (eqb (length b) (32 + blocksOf b + blocksOf b * sizeOf b))) (omega arith)
+    (if-both (Within 14) (not (eqb (length b) (wantedOf b))) (omega arith)
     (if-both (Within 14) (ltb 31 (getD b 12 0)) (omega arith) (if-both (Within 14) (ltb 3 (getD b 14 0)) (omega arith) (omega arith))))
 
 slot-place : (b : List ℕ) → slotRules b .place ≤ 16
@@ -259,11 +252,11 @@ rules-place b h =
     let q : slotRules b .place ≤ 16 = slot-place b in
     if-either (Within 8480) (eqb (headRules b .number) 0) _ (headRules b)
     (λ e.
-    let s : 32 + blocksOf b ≤ length b = head-long b (eqb-true (headRules b .number) 0 e) in
+    let s : 32 + lockRoom b ≤ length b = head-long b (eqb-true (headRules b .number) 0 e) in
     if-both (Within 8480) (eqb (slotRules b .number) 0)
     (if-both (Within 8480) (eqb (firstOf 8 (maskVerdict b) .number) 0)
     (if-both (Within 8480) (eqb (firstOf 7 (byteVerdict b 25 0) .number) 0)
-    (first-place (byteVerdict b 32 1) 8480 (blocksOf b) (λ i l. byte-place b 32 1 i 8480 (omega arith)))
+    (locks-place b 8480 (omega arith))
     (first-place (byteVerdict b 25 0) 8480 7 (λ i l. byte-place b 25 0 i 8480 (omega arith))))
     (first-place (maskVerdict b) 8480 8 (λ i l. mask-place b i 8480 (omega arith))))
     (omega arith))

@@ -8,12 +8,11 @@ use Prim.Native.Nat.{ℕ, _+_, _/_, _%_, _^_, _≤_, _<_}
 use native.Mathlib.Omega.{arith}
 use lib.Dec.{eqb}
 use lib.ListN.{length, getD}
-use lib.Seq.{getD-set-same, getD-set-other}
 use borrow.Author.Tests.{ne-eqb}
 use Rattle.frame.specs.Choose.{bit}
 use Rattle.frame.specs.Number.{num, part, Bytes}
 use Rattle.frame.proofs.Bools.{below-or-not, same-or-not, if-both}
-use Rattle.frame.proofs.Stores.{sets-off, part-off}
+use Rattle.frame.proofs.Stores.{sets-off, part-off, part-ext}
 use Rattle.ask.specs.declared.label.Target.{Target}
 use Rattle.ask.specs.declared.label.Target.the-variants as t
 use Rattle.ask.specs.declared.label.Family.{Family}
@@ -27,10 +26,12 @@ use Rattle.label.specs.declared.step.Work.{Work}
 use Rattle.label.specs.declared.step.Work.the-variants as w
 use Rattle.label.specs.declared.step.Stepped.{Stepped}
 use Rattle.label.specs.Step.{withState, ended, silent, ready, inventory, acts, perform, passed, asked, called, act}
-use Rattle.label.specs.Body.{loadOf, storeOf, worked, stepped, nextLabel, saidLabel, named, Sized, blocksOf, sizeOf, blockAt, lockAt}
+use Rattle.label.specs.Locks.{lockOn}
+use Rattle.label.specs.Body.{loadOf, storeOf, worked, stepped, nextLabel, saidLabel, named, Sized, blocksOf, sizeOf, blockAt}
 use Rattle.label.specs.Slots.{clear}
-use Rattle.label.proofs.Room.{lock-fits, lock-before, block-next, block-after}
-use Rattle.label.proofs.Stored.{stored-between, stored-above, stored-uid, stored-part, stored-place, stored-sized, stored-dsfid, stored-afi, stored-locks, stored-state, store-load}
+use Rattle.label.proofs.Locked.{lock-same, with-length, with-behind, with-own, with-other}
+use Rattle.label.proofs.Room.{locks-fit, locks-before, block-next, block-after}
+use Rattle.label.proofs.Stored.{stored-between, stored-lock, stored-uid, stored-part, stored-place, stored-sized, stored-dsfid, stored-afi, stored-locks, stored-state, store-load}
 use Rattle.label.proofs.Worked.{worked-below, worked-part}
 use Rattle.label.proofs.Slots.{store-ended, next-silent, said-silent}
 use Rattle.label.proofs.Ways.{Way, stays, offs, wakes, moves, starts, says, hushes, selects, readies, drops, writes, locks, afis, dsfids, afiLocks, dsfidLocks, way}
@@ -58,7 +59,7 @@ Spares n count w.Nothing b = Unit
 Spares n count (w.Write m) b = (m ≡ n → ⊥) × (count ≡ sizeOf b)
 Spares n count (w.Lock m) b = m ≤ getD b 11 0
 
-way-spares : {call : Call} {count : ℕ} {s : Stepped} (n : ℕ) (b : List ℕ) → getD b (lockAt n) 0 ≡ 1
+way-spares : {call : Call} {count : ℕ} {s : Stepped} (n : ℕ) (b : List ℕ) → lockOn n b ≡ 1
     → Way call count (named call b) (loadOf b) s → Spares n count (s .work) b
 unfolding Spares loadOf
 way-spares n b e stays = tt
@@ -71,7 +72,7 @@ way-spares n b e hushes = tt
 way-spares n b e selects = tt
 way-spares n b e readies = tt
 way-spares n b e drops = tt
-way-spares n b e (writes m x y z u) = (λ q. u (x b ∙ ap (λ (i : ℕ). getD b (lockAt i) 0) q ∙ e), y)
+way-spares n b e (writes m x y z u) = (λ q. u (x b ∙ ap (λ (i : ℕ). lockOn i b) q ∙ e), y)
 way-spares n b e (locks m x y z) = y
 way-spares n b e (afis v x y) = tt
 way-spares n b e (dsfids v x y) = tt
@@ -92,16 +93,17 @@ block-stays (w.Write m) n bytes b h g =
     inl (block-next b n m j))
     (below-or-not m n))
 block-stays (w.Lock m) n bytes b h g =
-    part-off b (1 ∷ []) (lockAt m) (blockAt b n) (sizeOf b) (inr (omega (arith, lock-before b m n g)))
+    part-ext (blockAt b n) (sizeOf b) (worked (w.Lock m) bytes b) b (with-length m b) (λ j l. with-behind m b (blockAt b n + j) g (omega (arith, locks-before b n)))
 
-locks-stay : (x : Work) (n : ℕ) (bytes b : List ℕ) → Sized b → n < blocksOf b → getD b (lockAt n) 0 ≡ 1 → getD (worked x bytes b) (lockAt n) 0 ≡ 1
+locks-stay : (x : Work) (n : ℕ) (bytes b : List ℕ) → Sized b → n < blocksOf b → lockOn n b ≡ 1 → lockOn n (worked x bytes b) ≡ 1
 unfolding worked
 locks-stay w.Nothing n bytes b s h e = e
-locks-stay (w.Write m) n bytes b s h e = sets-off b bytes (blockAt b m) (lockAt n) (inl (lock-before b n m (omega arith))) ∙ e
+locks-stay (w.Write m) n bytes b s h e =
+    lock-same n b (worked (w.Write m) bytes b) (omega arith) (λ j l k. sets-off b bytes (blockAt b m) j (inl (omega (arith, locks-before b m)))) ∙ e
 locks-stay (w.Lock m) n bytes b s h e =
     ⊎-elim
-    (λ (q : m ≡ n). rw q (getD-set-same b (lockAt n) 1 0 (lock-fits b n s (omega arith))))
-    (λ (q : m ≡ n → ⊥). getD-set-other b (lockAt m) (lockAt n) 1 0 (λ z. q (omega arith)) ∙ e)
+    (λ (q : m ≡ n). rw q (with-own n b (omega arith) (locks-fit b s)))
+    (λ (q : m ≡ n → ⊥). with-other n m b (λ z. q (sym z)) ∙ e)
     (same-or-not m n)
 
 -- the label stored moves neither
@@ -111,7 +113,7 @@ spares-stored n count w.Nothing b l g = tt
 spares-stored n count (w.Write m) b l g = (g .0, rw (stored-between b l 12 (omega arith) (omega arith)) (g .1))
 spares-stored n count (w.Lock m) b l g = rw (stored-between b l 11 (omega arith) (omega arith)) g
 
-module _ (r : Request) (bytes b : List ℕ) (n : ℕ) (h : n < blocksOf b) (e : getD b (lockAt n) 0 ≡ 1) where
+module _ (r : Request) (bytes b : List ℕ) (n : ℕ) (h : n < blocksOf b) (e : lockOn n b ≡ 1) where
   pub locked-block-stays : part (blockAt b n) (sizeOf b) (nextLabel r bytes b) ≡ part (blockAt b n) (sizeOf b) b
   unfolding nextLabel stepped
   locked-block-stays =
@@ -124,12 +126,12 @@ module _ (r : Request) (bytes b : List ℕ) (n : ℕ) (h : n < blocksOf b) (e : 
       let q : part (blockAt b n) (sizeOf b) (worked (s .work) bytes x) ≡ part (blockAt b n) (sizeOf b) x = rw (p, z) at (block-stays (s .work) n bytes x i g) in
       q ∙ stored-part b (s .next) (blockAt b n) (sizeOf b) (omega (arith, block-after b n))
 
-  pub lock-stays : Sized b → getD (nextLabel r bytes b) (lockAt n) 0 ≡ 1
+  pub lock-stays : Sized b → lockOn n (nextLabel r bytes b) ≡ 1
   unfolding nextLabel
   lock-stays z =
       let s = stepped r (length bytes) b in
       let i : n < blocksOf (storeOf b (s .next)) = rw (stored-between b (s .next) 11 (omega arith) (omega arith)) h in
-      locks-stay (s .work) n bytes (storeOf b (s .next)) (stored-sized b (s .next) z) i (stored-above b (s .next) (lockAt n) (omega arith) ∙ e)
+      locks-stay (s .work) n bytes (storeOf b (s .next)) (stored-sized b (s .next) z) i (stored-lock b (s .next) n ∙ e)
 
 -- ---- a locked AFI or DSFID, and its lock
 

@@ -1,5 +1,5 @@
 -- The judge's own steps: a byte of the mask against the mask's length, by how many bits are left for it; the loop over the mask's eight bytes;
--- a body that its head's rules allow is long enough for its lock bytes.
+-- a body that its head's rules allow is long enough for its locks.
 -- Assumes nothing.
 use mathlib.Core.Path.{_≡_, refl, sym, _∙_}
 use mathlib.Core.Bool.{Bool, true, false, not}
@@ -14,7 +14,8 @@ use borrow.Author.Tests.{lt-ltb, le-ltb, le-leb, lt-leb, eq-eqb, ne-eqb, eqb-tru
 use Rattle.frame.specs.declared.verdict.Verdict.{Verdict}
 use Rattle.frame.specs.Judge.{fine, bad, firstOf, byteVerdict}
 use Rattle.frame.proofs.Verdicts.{first-more, first-bad, not-none, if-fine}
-use Rattle.label.specs.Body.{blocksOf, sizeOf, Sized, headRules, slotRules, over, maskVerdict, labelRules}
+use Rattle.label.specs.Locks.{lockRoom, locksVerdict}
+use Rattle.label.specs.Body.{wantedOf, Sized, headRules, slotRules, over, maskVerdict, labelRules}
 
 -- ---- one byte of the mask
 module _ (b : List ℕ) (j : ℕ) where
@@ -62,16 +63,16 @@ wanted-le m n h k = mul-le-mul {n₁ = m + 1} {m₁ = n + 1} {n₂ = 256} {m₂ 
 pub head-sized : (b : List ℕ) → headRules b .number ≡ 0 → Sized b
 unfolding headRules Sized
 head-sized b e =
-    let n = 32 + blocksOf b + blocksOf b * sizeOf b in
+    let n = wantedOf b in
     let p = if-fine (ltb 3 (getD b 10 0)) 13 10 _ (not-none 12) e in
     eqb-true _ _ (not-false (eqb (length b) n) (if-fine (not (eqb (length b) n)) 13 11 _ (not-none 12) (p .1) .0))
 
-pub head-long : (b : List ℕ) → headRules b .number ≡ 0 → 32 + blocksOf b ≤ length b
+pub head-long : (b : List ℕ) → headRules b .number ≡ 0 → 32 + lockRoom b ≤ length b
 unfolding Sized
 head-long b e = let s : Sized b = head-sized b e in omega (arith, s)
 
 -- ---- the head, where w is the length that its numbers ask for
-module _ (b : List ℕ) {w : ℕ} (e : w ≡ 32 + blocksOf b + blocksOf b * sizeOf b) (l : getD b 10 0 ≤ 3) where
+module _ (b : List ℕ) {w : ℕ} (e : w ≡ wantedOf b) (l : getD b 10 0 ≤ 3) where
   pub head-misfit : (length b ≡ w → ⊥) → headRules b ≡ bad 13 11
   unfolding headRules
   head-misfit z = rw (← e, le-ltb _ _ l, ne-eqb _ _ z)
@@ -110,6 +111,6 @@ module _ (b : List ℕ) {h : Verdict} (eh : h ≡ headRules b) where
         unfolding labelRules
         at-zeros z = rw (← eh, ← es, ← em, ← ey, eq-eqb _ _ zh, eq-eqb _ _ zs, eq-eqb _ _ zm, ne-eqb _ _ z)
 
-        pub at-locks : y .number ≡ 0 → firstOf (blocksOf b) (byteVerdict b 32 1) ≡ labelRules b
+        pub at-locks : y .number ≡ 0 → locksVerdict b ≡ labelRules b
         unfolding labelRules
         at-locks zy = rw (← eh, ← es, ← em, ← ey, eq-eqb _ _ zh, eq-eqb _ _ zs, eq-eqb _ _ zm, eq-eqb _ _ zy)

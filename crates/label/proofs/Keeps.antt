@@ -19,9 +19,11 @@ use Rattle.label.specs.declared.step.Work.{Work}
 use Rattle.label.specs.declared.step.Stepped.{Stepped}
 use Rattle.ask.specs.Label.{Sound}
 use Rattle.label.specs.Step.{label, withSlot, ended, ready}
-use Rattle.label.specs.Body.{loadOf, storeOf, worked, stepped, nextLabel, named, blocksOf}
+use Rattle.label.specs.Body.{loadOf, storeOf, worked, stepped, nextLabel, named, Fits}
 use Rattle.label.specs.Facts.{LabelFine}
 use Rattle.label.proofs.Room.{sized-long}
+use Rattle.label.proofs.Locked.{fine-same}
+use Rattle.label.proofs.Fitting.{step-fits}
 use Rattle.label.proofs.Stored.{stored-length, stored-between, stored-above, stored-sized, stored-locks, stored-state, stored-slot, stored-bits, stored-mask, stored-all}
 use Rattle.label.proofs.Worked.{worked-length, worked-below, worked-part, worked-sized, worked-locks, worked-bytes}
 use Rattle.label.proofs.Ways.{Way, stays, offs, wakes, moves, starts, says, hushes, selects, readies, drops, writes, locks, afis, dsfids, afiLocks, dsfidLocks, way}
@@ -173,8 +175,7 @@ module _ (b : List ℕ) (l : Label) (ok : LabelFine b) (p : Proper l) where
         bits = rw (stored-bits b l long) (p .bits);
         mask = rw (stored-bits b l long, stored-mask b l long (mask-fits (l .bits) (l .mask) (p .bits) (p .mask))) (p .mask);
         zeros = λ j h. rw (stored-above b l (25 + j) (omega arith)) (ok .zeros j h);
-        lockBytes = λ j h.
-            rw (stored-above b l (32 + j) (omega arith)) (ok .lockBytes j (rw (stored-between b l 11 (omega arith) (omega arith)) at h));
+        locked = fine-same b (storeOf b l) (stored-between b l 11 (omega arith) (omega arith)) (λ j h g. stored-above b l j (omega arith)) (ok .locked);
       }
 
 slot-small : (l : Label) → Proper l → l .slot < 256
@@ -184,7 +185,7 @@ slot-small l p =
 pub stored-small : (b : List ℕ) (l : Label) → Bytes b → Proper l → Bytes (storeOf b l)
 stored-small b l f p = stored-all b l f (p .dsfid) (p .afi) (omega arith) (omega arith) (slot-small l p) (omega arith)
 
-module _ (x : Work) (bytes b : List ℕ) (ok : LabelFine b) where
+module _ (x : Work) (bytes b : List ℕ) (s : Bytes b) (fit : Fits x (length bytes) b) (ok : LabelFine b) where
   pub worked-fine : LabelFine (worked x bytes b)
   worked-fine =
       let e15 = worked-below x bytes b 15 (omega arith) in
@@ -201,9 +202,7 @@ module _ (x : Work) (bytes b : List ℕ) (ok : LabelFine b) where
         bits = rw e16 (ok .bits);
         mask = rw (e16, worked-part x bytes b 17 8 (omega arith)) (ok .mask);
         zeros = λ j h. rw (worked-below x bytes b (25 + j) (omega arith)) (ok .zeros j h);
-        lockBytes = λ j h.
-            let g : j < blocksOf b = rw (worked-below x bytes b 11 (omega arith)) at h in
-            worked-locks x bytes b j g (ok .lockBytes j g);
+        locked = worked-locks x bytes b s fit (ok .locked);
       }
 
 -- ---- the step
@@ -217,7 +216,8 @@ module _ (r : Request) (bytes b : List ℕ) (f : Bytes b) (ok : LabelFine b) (h 
   unfolding nextLabel
   next-keeps =
       let s = stepped r (length bytes) b in
-      worked-fine (s .work) bytes (storeOf b (s .next)) (stored-fine b (s .next) ok next-proper)
+      worked-fine (s .work) bytes (storeOf b (s .next)) (stored-small b (s .next) f next-proper) (step-fits r (length bytes) b (s .next))
+      (stored-fine b (s .next) ok next-proper)
 
 pub next-bytes : (r : Request) (bytes b : List ℕ) → Bytes b → Bytes bytes → LabelFine b → Sound (r .call) → Bytes (nextLabel r bytes b)
 unfolding nextLabel

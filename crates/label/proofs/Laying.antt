@@ -12,16 +12,17 @@ use Rattle.frame.specs.CheckSum.{framed}
 use Rattle.frame.proofs.Frames.{length-framed}
 use Rattle.frame.proofs.Stores.{length-part}
 use Rattle.label.specs.declared.step.Answer.the-variants as a
+use Rattle.label.specs.Locks.{lockOn}
 use Rattle.label.specs.Body.{Sized, blockAt, sizeOf}
 use Rattle.label.specs.Answer.{blockBytes, answerFrame}
 use Rattle.label.proofs.Room.{block-fits}
 
--- ---- a block as it is read: with its lock byte or without
+-- ---- a block as it is read: with its lock or without
 
 module _ (b : List ℕ) (n at : ℕ) (p : at ≡ blockAt b n) where
-  pub block-locked : (lock : Bool) → lock ≡ true → framed (0 ∷ getD b (32 + n) 0 ∷ part at (sizeOf b) b) ≡ answerFrame (a.Block n lock) b
+  pub block-locked : {k : ℕ} (lock : Bool) → k ≡ lockOn n b → lock ≡ true → framed (0 ∷ k ∷ part at (sizeOf b) b) ≡ answerFrame (a.Block n lock) b
   unfolding answerFrame blockBytes
-  block-locked lock e = rw (e, p)
+  block-locked lock q e = rw (q, e, p)
 
   pub block-plain : (lock : Bool) → lock ≡ false → framed (0 ∷ part at (sizeOf b) b) ≡ answerFrame (a.Block n lock) b
   unfolding answerFrame blockBytes

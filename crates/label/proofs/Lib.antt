@@ -1,4 +1,5 @@
 -- The laws of the crate's definitions, for its own proofs and for those of the crates above.
+pub mod Locked
 pub mod Judging
 pub mod Fine
 pub mod Others

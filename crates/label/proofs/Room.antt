@@ -1,26 +1,27 @@
--- A body of the length that its numbers ask for has room for each of its lock bytes and blocks.
+-- A body of the length that its numbers ask for has room for its locks and each of its blocks.
 -- Assumes nothing.
 use mathlib.Core.List.{List}
 use Prim.Native.Nat.{ℕ, suc, _+_, _*_, _≤_, _<_}
 use native.Mathlib.Nat.{mul-le-mul, mul-le-mul-right, suc-mul}
 use native.Mathlib.Omega.{arith}
 use lib.ListN.{length, getD}
-use Rattle.label.specs.Body.{Sized, blockAt, blocksOf, sizeOf, lockAt}
+use Rattle.label.specs.Locks.{lockRoom}
+use Rattle.label.specs.Body.{Sized, blockAt, blocksOf, sizeOf}
 
 pub sized-long : (b : List ℕ) → Sized b → 32 ≤ length b
 unfolding Sized
 sized-long b s = rw s (omega arith)
 
-pub lock-fits : (b : List ℕ) (n : ℕ) → Sized b → n ≤ getD b 11 0 → lockAt n < length b
+pub locks-fit : (b : List ℕ) → Sized b → 32 + lockRoom b ≤ length b
 unfolding Sized
-lock-fits b n s h = rw s (omega arith)
+locks-fit b s = rw s (omega arith)
 
--- lock bytes stand before the blocks
-pub lock-before : (b : List ℕ) (n m : ℕ) → n ≤ getD b 11 0 → lockAt n < blockAt b m
+-- the locks stand before the blocks
+pub locks-before : (b : List ℕ) (n : ℕ) → 32 + lockRoom b ≤ blockAt b n
 unfolding blockAt
-lock-before b n m h = omega arith
+locks-before b n = omega arith
 
-pub block-after : (b : List ℕ) (n : ℕ) → 33 ≤ blockAt b n
+pub block-after : (b : List ℕ) (n : ℕ) → 32 ≤ blockAt b n
 unfolding blockAt
 block-after b n = omega arith
 

@@ -13,6 +13,8 @@ use Rattle.frame.proofs.Stores.{sets-off, sets-on, length-part, part-ext, part-
 use Rattle.label.specs.declared.step.Label.{Label}
 use Rattle.label.specs.Step.{label, withSlot}
 use Rattle.label.specs.Slots.{seek}
+use Rattle.label.proofs.Locked.{room-same, lock-above}
+use Rattle.label.specs.Locks.{lockOn}
 use Rattle.label.specs.Body.{loadOf, storeOf, Sized, blockAt}
 
 -- the three runs
@@ -70,11 +72,14 @@ module _ (b : List ℕ) (l : Label) where
 
   pub stored-place : (n : ℕ) → blockAt (storeOf b l) n ≡ blockAt b n
   unfolding blockAt
-  stored-place n = rw (stored-between 11 (omega arith) (omega arith), stored-between 12 (omega arith) (omega arith))
+  stored-place n = rw (room-same b (storeOf b l) (stored-between 11 (omega arith) (omega arith)), stored-between 12 (omega arith) (omega arith))
+
+  pub stored-lock : (n : ℕ) → lockOn n (storeOf b l) ≡ lockOn n b
+  stored-lock n = lock-above n b (storeOf b l) (λ j h. stored-above j (omega arith))
 
   pub stored-sized : Sized b → Sized (storeOf b l)
   unfolding Sized
-  stored-sized s = rw (stored-length, stored-between 11 (omega arith) (omega arith), stored-between 12 (omega arith) (omega arith)) s
+  stored-sized s = rw (stored-length, room-same b (storeOf b l) (stored-between 11 (omega arith) (omega arith)), stored-between 11 (omega arith) (omega arith), stored-between 12 (omega arith) (omega arith)) s
 
   -- ---- what it reads
 

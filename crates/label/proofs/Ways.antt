@@ -5,7 +5,6 @@ use mathlib.Core.Bool.{Bool, true, false, not, _&&_}
 use mathlib.Core.List.{List}
 use Prim.Native.Nat.{ℕ, _+_, _^_, _≤_, _<_}
 use lib.Dec.{eqb, ltb}
-use lib.ListN.{getD}
 use borrow.Author.Tests.{eqb-true, eqb-false, ltb-true, ltb-false, not-false}
 use Rattle.frame.specs.Choose.{if_then_else_, bit, set?}
 use Rattle.frame.specs.Ending.{endsIn, endsInSlot}
@@ -24,7 +23,8 @@ use Rattle.label.specs.declared.step.Work.the-variants as w
 use Rattle.label.specs.declared.step.Stepped.{Stepped}
 use Rattle.ask.specs.Label.{Sound, Small}
 use Rattle.label.specs.Step.{withState, withSlot, withAfi, withDsfid, withLocks, ended, told, silent, done, off, on, passes, ready, turn, inventory, endOfFrame, acts, readBlock, writeBlock, lockBlock, writeAfi, lockAfi, writeDsfid, lockDsfid, perform, passed, asked, awake, called, act}
-use Rattle.label.specs.Body.{lockOf, named, lockAt}
+use Rattle.label.specs.Locks.{lockOn}
+use Rattle.label.specs.Body.{lockOf, named}
 
 -- found or silent
 abbrev pub turned : Bool → Answer
@@ -51,9 +51,9 @@ pub data Way (call : Call) (count lock : ℕ) (l : Label) : Stepped → Type 0 w
   selects : Way call count lock l (done (withState 3 (ended l)))
   readies : Way call count lock l (done (withState 1 (ended l)))
   drops : Way call count lock l (silent (withState 1 (ended l)))
-  writes : (n : ℕ) → ((b : List ℕ) → named call b ≡ getD b (lockAt n) 0) → count ≡ l .size + 1 → n ≤ l .blocks → (lock ≡ 1 → ⊥)
+  writes : (n : ℕ) → ((b : List ℕ) → named call b ≡ lockOn n b) → count ≡ l .size + 1 → n ≤ l .blocks → (lock ≡ 1 → ⊥)
       → Way call count lock l (record { next = ended l; answer = a.Done; work = w.Write n })
-  locks : (n : ℕ) → ((b : List ℕ) → named call b ≡ getD b (lockAt n) 0) → n ≤ l .blocks → (lock ≡ 1 → ⊥)
+  locks : (n : ℕ) → ((b : List ℕ) → named call b ≡ lockOn n b) → n ≤ l .blocks → (lock ≡ 1 → ⊥)
       → Way call count lock l (record { next = ended l; answer = a.Done; work = w.Lock n })
   afis : (v : ℕ) → (Sound call → v < 256) → (bit 0 (l .locks) ≡ 1 → ⊥) → Way call count lock l (done (withAfi v (ended l)))
   dsfids : (v : ℕ) → (Sound call → v < 256) → (bit 1 (l .locks) ≡ 1 → ⊥) → Way call count lock l (done (withDsfid v (ended l)))

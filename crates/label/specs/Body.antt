@@ -1,10 +1,10 @@
--- Document 01, "Rack file": the label body, 32 bytes, one lock byte a block, the blocks; its rules and the step on it. Assumes nothing.
+-- Document 01, "Rack file": the label body, 32 bytes, the locks, the blocks; its rules and the step on it. Assumes nothing.
 use mathlib.Core.Path.{_≡_}
 use mathlib.Core.Bool.{Bool, not, _&&_}
 use mathlib.Core.List.{List, [], _∷_}
 use Prim.Native.Nat.{ℕ, _+_, _-_, _*_, _^_, _≤_}
 use lib.Dec.{eqb, ltb, leb}
-use lib.ListN.{length, getD, set}
+use lib.ListN.{length, getD}
 use lib.Seq.{sets}
 use Rattle.frame.specs.Choose.{if_then_else_}
 use Rattle.frame.specs.Number.{num, bytesOf, part}
@@ -20,6 +20,7 @@ use Rattle.label.specs.declared.step.Answer.{Answer}
 use Rattle.label.specs.declared.step.Work.{Work}
 use Rattle.label.specs.declared.step.Work.the-variants as w
 use Rattle.label.specs.declared.step.Stepped.{Stepped}
+use Rattle.label.specs.Locks.{lockRoom, lockOn, withLock, locksVerdict}
 use Rattle.label.specs.Step.{act}
 
 -- ---- what stands where
@@ -53,16 +54,16 @@ blocksOf b = getD b 11 0 + 1
 abbrev pub sizeOf : List ℕ → ℕ
 sizeOf b = getD b 12 0 + 1
 
--- one lock byte for each block at 32; then the blocks
-abbrev pub lockAt : ℕ → ℕ
-lockAt n = 32 + n
-
+-- the locks at 32; then the blocks
 unfoldable pub blockAt : List ℕ → ℕ → ℕ
-blockAt b n = 32 + blocksOf b + n * sizeOf b
+blockAt b n = 32 + lockRoom b + n * sizeOf b
 
 -- the length that the numbers inside a body ask for
+abbrev pub wantedOf : List ℕ → ℕ
+wantedOf b = 32 + lockRoom b + blocksOf b * sizeOf b
+
 unfoldable pub Sized : List ℕ → Type 0
-Sized b = length b ≡ 32 + blocksOf b + blocksOf b * sizeOf b
+Sized b = length b ≡ wantedOf b
 
 -- ---- the rules, in the order of the bytes; a rule that joins fields is placed at the later one
 
@@ -70,7 +71,7 @@ Sized b = length b ≡ 32 + blocksOf b + blocksOf b * sizeOf b
 unfoldable pub headRules : List ℕ → Verdict
 headRules b =
     if ltb 3 (getD b 10 0) then bad 13 10
-    else if not (eqb (length b) (32 + blocksOf b + blocksOf b * sizeOf b)) then bad 13 11
+    else if not (eqb (length b) (wantedOf b)) then bad 13 11
     else if ltb 31 (getD b 12 0) then bad 13 12
     else if ltb 3 (getD b 14 0) then bad 13 14
     else fine
@@ -94,25 +95,25 @@ over b j = leb (2 ^ (getD b 16 0 - 8 * j)) (getD b (17 + j) 0)
 unfoldable pub maskVerdict : List ℕ → ℕ → Verdict
 maskVerdict b j = if over b j then bad 13 (17 + j) else fine
 
--- then zeros (25 to 31) and lock bytes, 0 or 1
+-- then zeros (25 to 31) and the locks
 unfoldable pub labelRules : List ℕ → Verdict
 labelRules b =
     orElse (headRules b)
     (orElse (slotRules b)
     (orElse (firstOf 8 (maskVerdict b))
     (orElse (firstOf 7 (byteVerdict b 25 0))
-    (firstOf (blocksOf b) (byteVerdict b 32 1)))))
+    (locksVerdict b))))
 
 -- ---- the step
 
--- the lock byte of the block that an order writes or locks
+-- the lock of the block that an order writes or locks
 unfoldable pub lockOf : Order → List ℕ → ℕ
 lockOf o.Nothing b = 0
 lockOf (o.Fault e) b = 0
 lockOf o.Quiet b = 0
 lockOf (o.Read n lock) b = 0
-lockOf (o.Write n opt) b = getD b (lockAt n) 0
-lockOf (o.Lock n) b = getD b (lockAt n) 0
+lockOf (o.Write n opt) b = lockOn n b
+lockOf (o.Lock n) b = lockOn n b
 lockOf o.Select b = 0
 lockOf o.Ready b = 0
 lockOf (o.WriteAfi v) b = 0
@@ -129,11 +130,11 @@ named k.EndOfFrame b = 0
 named (k.Inventory family sixteen m e) b = 0
 named (k.Ask to order) b = lockOf order b
 
--- a block becomes the bytes sent, or its lock byte becomes 1
+-- a block becomes the bytes sent, or is locked
 unfoldable pub worked : Work → List ℕ → List ℕ → List ℕ
 worked w.Nothing bytes b = b
 worked (w.Write n) bytes b = sets b (blockAt b n) bytes
-worked (w.Lock n) bytes b = set b (lockAt n) 1
+worked (w.Lock n) bytes b = withLock n b
 
 -- a work that stays inside the body
 unfoldable pub Fits : Work → ℕ → List ℕ → Type 0

@@ -4,7 +4,8 @@ use mathlib.Core.List.{List}
 use Prim.Native.Nat.{ℕ, _+_, _^_, _≤_, _<_}
 use lib.ListN.{getD}
 use Rattle.frame.specs.Number.{num, part}
-use Rattle.label.specs.Body.{Sized, blocksOf}
+use Rattle.label.specs.Locks.{LocksFine}
+use Rattle.label.specs.Body.{Sized}
 
 pub record LabelFine (b : List ℕ) : Type 0 where
   pub locks : getD b 10 0 ≤ 3
@@ -18,4 +19,4 @@ pub record LabelFine (b : List ℕ) : Type 0 where
   pub bits : getD b 16 0 ≤ 60
   pub mask : num (part 17 8 b) < 2 ^ getD b 16 0
   pub zeros : (j : ℕ) → j < 7 → getD b (25 + j) 0 ≤ 0
-  pub lockBytes : (j : ℕ) → j < blocksOf b → getD b (32 + j) 0 ≤ 1
+  pub locked : LocksFine b

@@ -1,5 +1,6 @@
 // The frame of a label's answer.
 use crate::body::place;
+use crate::locks::lock_on;
 use crate::step::Answer;
 use frame::check_sum::seal;
 use frame::part::seal_part;
@@ -46,7 +47,7 @@ fn say_info(b: &[u8], out: &mut [u8]) -> usize
     seal_part(out, n, b, 11, 3)
 }
 
-// 00, the lock byte if it is asked for, the block.
+// 00, the lock if it is asked for, the block.
 fn say_block(b: &[u8], n: u8, lock: bool, out: &mut [u8]) -> usize
     requires { ⌜ Sized (now b) × ((getD (now b) 12 0 ≤ 31) × ((n ≤ getD (now b) 11 0) × (64 ≤ length (now out)))) ⌝ }
     ensures { λ r. ⌜ (r ≡ length (answerFrame (Answer.Block n lock) (now (b .entry)))) × (now (out .exit) ≡ sets (now (out .entry)) 0 (answerFrame (Answer.Block n lock) (now (b .entry)))) ⌝ }
@@ -55,7 +56,7 @@ fn say_block(b: &[u8], n: u8, lock: bool, out: &mut [u8]) -> usize
     let at = place(b, n);
     out[0] = 0;
     if lock {
-        out[1] = b[32 + n as usize];
+        out[1] = lock_on(b, n);
         return seal_part(out, 2, b, at, size);
     }
     seal_part(out, 1, b, at, size)

@@ -1,4 +1,7 @@
 // A label's body: the label it holds, and a step in place.
+use crate::locks::lock_on;
+use crate::locks::lock_room;
+use crate::locks::set_lock;
 use crate::step::Answer;
 use crate::step::Label;
 use crate::step::Stepped;
@@ -6,7 +9,6 @@ use crate::step::Work;
 use ask::label::Call;
 use ask::label::Order;
 use ask::label::Request;
-use frame::number::byte_at;
 use frame::number::number_at;
 use frame::put::put_bytes;
 use frame::put::put_number;
@@ -57,18 +59,18 @@ pub fn place(b: &[u8], n: u8) -> usize
     requires { ⌜ 32 ≤ length (now b) ⌝ }
     ensures { λ r. ⌜ r ≡ blockAt (now (b .entry)) n ⌝ }
 {
-    let blocks = b[11] as usize + 1;
+    let room = lock_room(b);
     let size = b[12] as usize + 1;
-    32 + blocks + n as usize * size
+    32 + room + n as usize * size
 }
 
-// The lock byte of the block that an order writes or locks.
+// The lock of the block that an order writes or locks.
 fn lock_of(b: &[u8], order: Order) -> u8
     ensures { λ r. ⌜ r ≡ lockOf order (now (b .entry)) ⌝ }
 {
     match order {
-        Order::Write(n, _) => byte_at(b, 32 + n as usize),
-        Order::Lock(n) => byte_at(b, 32 + n as usize),
+        Order::Write(n, _) => lock_on(b, n),
+        Order::Lock(n) => lock_on(b, n),
         _ => 0,
     }
 }
@@ -82,7 +84,7 @@ fn named_lock(b: &[u8], call: Call) -> u8
     lock_of(b, order)
 }
 
-// Writes the block, or the lock byte, that a step writes.
+// Writes the block, or locks the one, that a step names.
 fn do_work(b: &mut [u8], work: Work, data: &[u8])
     requires { ⌜ Sized (now b) × Fits work (length (now «data»)) (now b) ⌝ }
     ensures { λ _. ⌜ now (b .exit) ≡ worked work (now («data» .entry)) (now (b .entry)) ⌝ }
@@ -94,7 +96,7 @@ fn do_work(b: &mut [u8], work: Work, data: &[u8])
             put_bytes(b, at, data, data.len());
         }
         Work::Lock(n) => {
-            b[32 + n as usize] = 1;
+            set_lock(b, n);
         }
     }
 }

@@ -1,23 +1,26 @@
 // The rules of a label's body.
+use crate::locks::judge_locks;
+use crate::locks::lock_room;
 use frame::uid::pow2;
 use frame::verdict::Verdict;
 use frame::verdict::good;
 use frame::verdict::judge_bytes;
 use frame::verdict::offence;
 ghost use mathlib.Core.Path.{_≡_};
-ghost use Prim.Native.Nat.{_+_, _*_, _≤_};
+ghost use Prim.Native.Nat.{_≤_};
 ghost use lib.ListN.{length};
 ghost use Rattle.frame.specs.Judge.{firstOf};
-ghost use Rattle.label.specs.Body.{blocksOf, sizeOf, headRules, bitsRules, slotRules, over, maskVerdict, labelRules};
+ghost use Rattle.label.specs.Body.{wantedOf, headRules, bitsRules, slotRules, over, maskVerdict, labelRules};
 
 // The length that the numbers inside a body ask for.
 fn wanted(b: &[u8]) -> usize
     requires { ⌜ 32 ≤ length (now b) ⌝ }
-    ensures { λ r. ⌜ r ≡ 32 + blocksOf (now (b .entry)) + blocksOf (now (b .entry)) * sizeOf (now (b .entry)) ⌝ }
+    ensures { λ r. ⌜ r ≡ wantedOf (now (b .entry)) ⌝ }
 {
+    let room = lock_room(b);
     let blocks = b[11] as usize + 1;
     let size = b[12] as usize + 1;
-    32 + blocks + blocks * size
+    32 + room + blocks * size
 }
 
 // Locks, numbers of blocks and bytes, state.
@@ -129,6 +132,5 @@ pub fn judge_label(b: &[u8]) -> Verdict
     if zeros.number != 0 {
         return zeros;
     }
-    let blocks = b[11] as usize + 1;
-    judge_bytes(b, 32, blocks, 1)
+    judge_locks(b)
 }

@@ -2,4 +2,5 @@
 pub mod answer;
 pub mod body;
 pub mod judge;
+pub mod locks;
 pub mod step;

@@ -14,6 +14,7 @@ use borrow.Author.Tests.{eq-eqb, ne-eqb}
 use Rattle.frame.specs.Choose.{if_then_else_, bit}
 use Rattle.frame.specs.Number.{num, part, Bytes}
 use Rattle.frame.proofs.Numbers.{bytes-part}
+use Rattle.label.specs.Locks.{lockOn}
 use Rattle.label.specs.Body as labels
 use Rattle.label.proofs.Floor as label
 use Rattle.label.proofs.Fine.{long-enough}
@@ -78,7 +79,7 @@ module _ (r : List ℕ) (ok : RackFine r) (e : ℕ) (f ds out : List ℕ) where
           by-label (λ x. getD x j 0 ≡ getD (bodyAt r i) j 0) (λ t. getD (bodyAt r i) j 0)
           (label.numbers-stay (signalOf e f .request) (signalOf e f .bytes) (bodyAt r i) j low high)
 
-      pub locked-block-stays : (n : ℕ) → n < labels.blocksOf (bodyAt r i) → getD (bodyAt r i) (labels.lockAt n) 0 ≡ 1
+      pub locked-block-stays : (n : ℕ) → n < labels.blocksOf (bodyAt r i) → lockOn n (bodyAt r i) ≡ 1
           → part (labels.blockAt (bodyAt r i) n) (labels.sizeOf (bodyAt r i)) (bodyAt (eventOf r e f ds out .rack) i)
           ≡ part (labels.blockAt (bodyAt r i) n) (labels.sizeOf (bodyAt r i)) (bodyAt r i)
       locked-block-stays n m l =

@@ -17,6 +17,7 @@ use Rattle.ask.specs.Label as labels
 use Rattle.label.specs.Body.{Sized, labelRules, nextLabel, saidLabel}
 use Rattle.label.specs.Answer.{Told}
 use Rattle.ask.proofs.Decoded as label-decoded
+use Rattle.label.proofs.Locked.{room-same}
 use Rattle.label.proofs.Fine as label-fine
 use Rattle.label.proofs.Keeps as label-keeps
 use Rattle.label.proofs.Answers as label-answers
@@ -161,7 +162,7 @@ told-same a.Info b c e t = t
 
 sized-same : (b c : List ℕ) → length c ≡ length b → getD c 11 0 ≡ getD b 11 0 → getD c 12 0 ≡ getD b 12 0 → Sized b → Sized c
 unfolding Sized
-sized-same b c l p q z = rw (l, p, q) z
+sized-same b c l p q z = rw (l, room-same b c p, p, q) z
 
 module _ (k : ℕ) (e : Signal) (d : ℕ) (b : List ℕ) (f : TagFine k b) where
   -- the frame is the same from the old body and from the next

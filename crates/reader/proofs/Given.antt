@@ -32,6 +32,7 @@ use Rattle.label.specs.declared.step.Stepped.{Stepped}
 use Rattle.ask.specs.Label.{bare, decode, dataOf}
 use Rattle.label.specs.Step as steps
 use Rattle.label.specs.Body as label
+use Rattle.label.specs.Locks.{lockOn}
 use Rattle.label.specs.Answer.{speaks, blockBytes, answerFrame}
 use Rattle.label.specs.Facts.{LabelFine}
 use Rattle.label.specs.Slots.{on, during}
@@ -175,9 +176,9 @@ says-done (t.Write n) count b u s dsfid afi ic y h r e =
     rw (
       eq-eqb count (getD b 12 0 + 1) (e ∙ sym (y .size)),
       le-ltb (getD b 11 0) n (omega (arith, y .blocks)),
-      y .lock-byte n (omega arith),
+      y .locked n (omega arith),
     )
-says-done (t.Lock n) count b u s dsfid afi ic y h r e = rw (le-ltb (getD b 11 0) n (omega (arith, y .blocks)), y .lock-byte n (omega arith))
+says-done (t.Lock n) count b u s dsfid afi ic y h r e = rw (le-ltb (getD b 11 0) n (omega (arith, y .blocks)), y .locked n (omega arith))
 says-done t.Select count b u s dsfid afi ic y h r e = refl
 says-done t.Ready count b u s dsfid afi ic y h r e = refl
 says-done (t.WriteAfi v) count b u s dsfid afi ic y h r e = rw (y .locks)
@@ -220,7 +221,7 @@ says-block : (n : ℕ) (opt : Bool) (count lock : ℕ) (b : List ℕ) → n ≤ 
 unfolding steps.perform orderOf steps.readBlock steps.ended label.loadOf
 says-block n opt count lock b h = rw (le-ltb (getD b 11 0) n h)
 
-block-frame : (n lock : ℕ) (b s : List ℕ) → getD b (label.lockAt n) 0 ≡ lock → part (label.blockAt b n) (label.sizeOf b) b ≡ s
+block-frame : (n lock : ℕ) (b s : List ℕ) → lockOn n b ≡ lock → part (label.blockAt b n) (label.sizeOf b) b ≡ s
     → (answerFrame (a.Block n true) b ≡ framed (0 ∷ lock ∷ s)) × (answerFrame (a.Block n false) b ≡ framed (0 ∷ s))
 unfolding answerFrame blockBytes
 block-frame n lock b s h e = (ap₂ (λ (x : ℕ) (y : List ℕ). framed (0 ∷ x ∷ y)) h e, ap (λ (y : List ℕ). framed (0 ∷ y)) e)
@@ -234,7 +235,7 @@ block-given to opt n lock uid d s g hu bu r v hl bs lo hi i =
     let b = made uid 0 0 255 0 lock s in
     asked to opt (t.Read n) uid d uid b g (a.Block n opt) v hu (y .bytes) (y .ok) (y .state) (y .uid) (own-uid to uid)
     (says-block n opt _ _ b (omega (arith, y .blocks)))
-    refl (i b (block-frame n lock b s (y .lock-byte n (omega arith)) (y .block n (omega arith))))
+    refl (i b (block-frame n lock b s (y .locked n (omega arith)) (y .block n (omega arith))))
 
 read-given : (to : Target) (opt : Bool) (n : ℕ) (uid d s : List ℕ) → length uid ≡ 8 → Bytes uid → n < 256
     → valid (c.Label to opt (t.Read n)) (length d) ≡ true → Bytes s → Success (blockOf opt s) → LabelGives (encode (c.Label to opt (t.Read n)) uid d) (framed s)

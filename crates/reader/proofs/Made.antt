@@ -14,7 +14,9 @@ use Rattle.frame.specs.Number.{part, Bytes}
 use Rattle.frame.proofs.Lists.{window, window-all}
 use Rattle.frame.proofs.Numbers.{bytes-append}
 use Rattle.frame.proofs.Stores.{bytes-cons}
-use Rattle.label.specs.Body.{Sized, sizeOf, blockAt, lockAt}
+use Rattle.label.specs.Locks.{lockOn, lockRoom}
+use Rattle.label.specs.Body.{Sized, sizeOf, blockAt}
+use Rattle.label.proofs.Locked.{lockRun, run-length, run-bytes, run-room, run-lock, run-fine}
 use Rattle.label.specs.Facts.{LabelFine}
 
 -- ---- lists of bytes
@@ -80,7 +82,7 @@ abbrev head : List ℕ → ℕ → ℕ → ℕ → ℕ → ℕ → List ℕ
 head u dsfid afi last size ic = front u dsfid afi last size ic ++ replicate 7 0
 
 unfoldable pub made : List ℕ → ℕ → ℕ → ℕ → ℕ → ℕ → List ℕ → List ℕ
-made u dsfid afi last ic lock s = head u dsfid afi last (length s - 1) ic ++ (replicate (suc last) lock ++ again (suc last) s)
+made u dsfid afi last ic lock s = head u dsfid afi last (length s - 1) ic ++ (lockRun last lock ++ again (suc last) s)
 
 -- what it holds
 pub record Body (b u : List ℕ) (dsfid afi last ic lock : ℕ) (s : List ℕ) : Type 0 where
@@ -94,7 +96,7 @@ pub record Body (b u : List ℕ) (dsfid afi last ic lock : ℕ) (s : List ℕ) :
   pub size : getD b 12 0 + 1 ≡ length s
   pub ics : getD b 13 0 ≡ ic
   pub state : getD b 14 0 ≡ 3
-  pub lock-byte : (n : ℕ) → n ≤ last → getD b (lockAt n) 0 ≡ lock
+  pub locked : (n : ℕ) → n ≤ last → lockOn n b ≡ lock
   pub block : (n : ℕ) → n ≤ last → part (blockAt b n) (sizeOf b) b ≡ s
 
 -- the same element, before some others
@@ -112,7 +114,7 @@ module _ (u : List ℕ) (dsfid afi last ic lock : ℕ) (s : List ℕ) (hu : leng
   h = head u dsfid afi last (length s - 1) ic
 
   abbrev rest : List ℕ
-  rest = replicate (suc last) lock ++ again (suc last) s
+  rest = lockRun last lock ++ again (suc last) s
 
   head-bytes : Bytes h
   head-bytes =
@@ -135,19 +137,19 @@ module _ (u : List ℕ) (dsfid afi last ic lock : ℕ) (s : List ℕ) (hu : leng
   unfolding made
   made-bytes =
       bytes-append h rest head-bytes
-      (bytes-append (replicate (suc last) lock) (again (suc last) s) (bytes-same (suc last) lock (omega arith)) (bytes-again (suc last) s bs))
+      (bytes-append (lockRun last lock) (again (suc last) s) (run-bytes last lock hk) (bytes-again (suc last) s bs))
 
-  made-length : length b ≡ 32 + (last + 1) + (last + 1) * length s
+  made-length : length b ≡ 32 + lockRoom b + (last + 1) * length s
   unfolding made
   made-length =
-      let l : length rest ≡ suc last + suc last * length s =
-      length-append (replicate (suc last) lock) (again (suc last) s) ∙ ap₂ _+_ (length-replicate (suc last) lock) (length-again (suc last) s)
+      let l : length rest ≡ lockRoom b + suc last * length s =
+      length-append (lockRun last lock) (again (suc last) s) ∙ ap₂ _+_ (run-length last lock ∙ sym (run-room last b refl)) (length-again (suc last) s)
       in
       length-append h rest ∙ omega (arith, l, suc-mul last (length s), ap (λ (x : ℕ). x * length s) (add-one last))
 
-  made-lock : (n : ℕ) → n ≤ last → getD b (lockAt n) 0 ≡ lock
+  made-lock : (n : ℕ) → n ≤ last → lockOn n b ≡ lock
   unfolding made
-  made-lock n l = getD-append-add h rest n 0 ∙ same-at (suc last) n lock (again (suc last) s) (omega arith)
+  made-lock n l = run-lock last lock n h (again (suc last) s) refl hk l
 
   made-zero : (j : ℕ) → j < 7 → getD b (25 + j) 0 ≡ 0
   unfolding made
@@ -159,12 +161,12 @@ module _ (u : List ℕ) (dsfid afi last ic lock : ℕ) (s : List ℕ) (hu : leng
   made-block : (n : ℕ) → n ≤ last → part (blockAt b n) (sizeOf b) b ≡ s
   unfolding made blockAt
   made-block n l =
-      let q = replicate (suc last) lock in
+      let q = lockRun last lock in
       let e : h ++ (q ++ again (suc last) s) ≡ (h ++ q) ++ (again (suc last) s ++ []) =
       ap (λ (x : List ℕ). h ++ (q ++ x)) (sym (append-nil (again (suc last) s))) ∙ sym (append-assoc h q (again (suc last) s ++ []))
       in
-      let k : length (h ++ q) ≡ 32 + suc last = length-append h q ∙ ap (λ (x : ℕ). 32 + x) (length-replicate (suc last) lock) in
-      let at = 32 + (last + 1) + n * (length s - 1 + 1) in
+      let k : length (h ++ q) ≡ 32 + lockRoom b = length-append h q ∙ ap (λ (x : ℕ). 32 + x) (run-length last lock ∙ sym (run-room last b refl)) in
+      let at = 32 + lockRoom b + n * (length s - 1 + 1) in
       let w : at ≡ length (h ++ q) + n * length s = omega (arith, k, ap (λ (x : ℕ). n * x) size-is) in
       ap₂ (λ (x : ℕ) (y : List ℕ). part at x y) size-is e ∙ again-part (h ++ q) n (suc last) s [] at (omega arith) w
 
@@ -173,7 +175,7 @@ module _ (u : List ℕ) (dsfid afi last ic lock : ℕ) (s : List ℕ) (hu : leng
   made-fine =
       record {
         locks = omega arith;
-        sized = made-length ∙ ap (λ (x : ℕ). 32 + (last + 1) + (last + 1) * x) (sym size-is);
+        sized = made-length ∙ ap (λ (x : ℕ). 32 + lockRoom b + (last + 1) * x) (sym size-is);
         size = omega arith;
         state = omega arith;
         slot = λ z. absurd (z refl);
@@ -182,7 +184,7 @@ module _ (u : List ℕ) (dsfid afi last ic lock : ℕ) (s : List ℕ) (hu : leng
         bits = omega arith;
         mask = lit< tt;
         zeros = λ j l. omega (arith, made-zero j l);
-        lockBytes = λ j l. omega (arith, made-lock j (omega arith));
+        locked = run-fine last lock h (again (suc last) s) refl refl hk;
       }
 
   pub made-body : Body b u dsfid afi last ic lock s
@@ -199,6 +201,6 @@ module _ (u : List ℕ) (dsfid afi last ic lock : ℕ) (s : List ℕ) (hu : leng
         size = size-is;
         ics = refl;
         state = refl;
-        lock-byte = made-lock;
+        locked = made-lock;
         block = made-block;
       }

@@ -18,7 +18,9 @@ use Rattle.frame.proofs.Lists.{window, window-take, window-all}
 use Rattle.ask.specs.declared.label.Target.{Target}
 use Rattle.ask.specs.declared.label.Family.{Family}
 use Rattle.label.specs.declared.step.Answer.the-variants as a
-use Rattle.label.specs.Body.{sizeOf, lockAt, blockAt}
+use Rattle.label.specs.Locks.{lockOn}
+use Rattle.label.specs.Body.{sizeOf, blockAt}
+use Rattle.label.proofs.Locked.{lock-one}
 use Rattle.label.specs.Facts.{LabelFine}
 use Rattle.label.specs.Answer as labelAnswer
 use Rattle.chip.specs.declared.step.Answer.the-variants as ca
@@ -118,7 +120,7 @@ lock-block x s z h l =
     ∙ ap (λ (k : ℕ). said (m.LockAndBlock x 2 k)) q
 
 abbrev pub blockSaid : Bool → ℕ → List ℕ → Reading
-blockSaid true n b = said (m.LockAndBlock (getD b (lockAt n) 0) 2 (sizeOf b))
+blockSaid true n b = said (m.LockAndBlock (lockOn n b) 2 (sizeOf b))
 blockSaid false n b = said (m.Block 1 (sizeOf b))
 
 block-long : (b : List ℕ) (n : ℕ) → LabelFine b → n ≤ getD b 11 0 → length (part (blockAt b n) (sizeOf b) b) ≡ sizeOf b
@@ -131,9 +133,9 @@ unfolding labelAnswer.answerFrame labelAnswer.blockBytes successOf
 block-read to true n uid k b v ok h =
     let s = part (blockAt b n) (sizeOf b) b in
     let l : length s ≡ sizeOf b = block-long b n ok h in
-    success-read to true (t.Read n) uid k (getD b (lockAt n) 0 ∷ s) v refl
-    ∙ lock-block (getD b (lockAt n) 0) s (ok .lockBytes n (omega arith)) (omega arith) (omega (arith, ok .size, l))
-    ∙ ap (λ (x : ℕ). said (m.LockAndBlock (getD b (lockAt n) 0) 2 x)) l
+    success-read to true (t.Read n) uid k (lockOn n b ∷ s) v refl
+    ∙ lock-block (lockOn n b) s (lock-one n b (ok .locked) h) (omega arith) (omega (arith, ok .size, l))
+    ∙ ap (λ (x : ℕ). said (m.LockAndBlock (lockOn n b) 2 x)) l
 block-read to false n uid k b v ok h =
     let s = part (blockAt b n) (sizeOf b) b in
     let l : length s ≡ sizeOf b = block-long b n ok h in
@@ -149,7 +151,7 @@ unfolding labelAnswer.answerFrame labelAnswer.blockBytes framedWith
 block-there n b ok h =
     let s = part (blockAt b n) (sizeOf b) b in
     let l : length s ≡ sizeOf b = block-long b n ok h in
-    (take-at s (bytesOf 2 (crcOf (0 ∷ s))) (sizeOf b) l, take-at s (bytesOf 2 (crcOf (0 ∷ getD b (lockAt n) 0 ∷ s))) (sizeOf b) l)
+    (take-at s (bytesOf 2 (crcOf (0 ∷ s))) (sizeOf b) l, take-at s (bytesOf 2 (crcOf (0 ∷ lockOn n b ∷ s))) (sizeOf b) l)
 
 -- what a label says of itself
 pub info-bytes : (x : List ℕ) (to : Target) (uid b : List ℕ) → 14 ≤ length b → getD b 12 0 ≤ 31 → owned to uid (part 0 8 b) ≡ true

@@ -12,7 +12,7 @@ use Rattle.frame.specs.Number.{part}
 use Rattle.frame.proofs.Stores.{length-part}
 use Rattle.frame.proofs.Puts.{laid-part}
 use Rattle.label.specs.Body.{sizeOf}
-use Rattle.label.proofs.Room.{sized-long, lock-fits}
+use Rattle.label.proofs.Room.{sized-long}
 use Rattle.label.proofs.Laying.{block-locked, block-plain, block-inside}
 use Rattle.label.proofs.answer.say_block.Statement.{statement}
 use Rattle.label.proofs.answer.say_block.Tie as tie
@@ -30,8 +30,8 @@ returns c =
     let at = c .before .before .before .before .before .before .place .result in
     let p = c .before .before .before .before .before .before .place .ensures in
     let w = block-inside b (s .args .n) at p (s .pre .0) (s .pre .1 .1 .0) in
-    let l = laid-part {xs = 0 ∷ getD b (32 + s .args .n) 0 ∷ []} {old = old} (part at (sizeOf b) b) (record { long = refl; is = refl }) (omega (arith, s .pre .1)) (length-part at (sizeOf b) b w) (c .before .before .seal-part .ensures) in
-    let e = block-locked b (s .args .n) at p (s .args .lock) (c .before .before .before .before .before .if1 .taken) in
+    let l = laid-part {xs = 0 ∷ c .before .before .before .before .lock-on .result ∷ []} {old = old} (part at (sizeOf b) b) (record { long = refl; is = refl }) (omega (arith, s .pre .1)) (length-part at (sizeOf b) b w) (c .before .before .seal-part .ensures) in
+    let e = block-locked b (s .args .n) at p (s .args .lock) (c .before .before .before .before .lock-on .ensures) (c .before .before .before .before .before .if1 .taken) in
     (l .long ∙ ap length e, l .is ∙ ap (sets old 0) e)
 
 seal-part-requires-2 : tie.Need-seal-part-requires-2
@@ -60,8 +60,7 @@ say-block-spec =
     (λ c. search needs)
     (λ c κs. sized-long (now (c .before .before .before .args .b)) (c .before .before .before .pre .0))
     (λ c. search needs)
-    (λ c. search needs)
-    (λ c. let s = c .before .before .before .before .before .before in lock-fits (now (s .args .b)) (s .args .n) (s .pre .0) (s .pre .1 .1 .0))
+    (λ c κs. search needs)
     (λ c. simp length-set (omega arith))
     seal-part-requires
     (λ c. c .before .before .seal-part .kept .0 ∙ simp length-set)

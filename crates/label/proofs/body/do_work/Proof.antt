@@ -10,7 +10,7 @@ use borrow.Author.Needs.{needs}
 use Rattle.label.specs.declared.step.Work.{Work}
 use Rattle.label.specs.declared.step.Work.the-variants as w
 use Rattle.label.specs.Body.{blockAt, Fits, worked}
-use Rattle.label.proofs.Room.{sized-long, block-fits, lock-fits}
+use Rattle.label.proofs.Room.{sized-long, block-fits, locks-fit}
 use Rattle.label.proofs.body.do_work.Statement.{statement}
 use Rattle.label.proofs.body.do_work.Tie as tie
 
@@ -26,12 +26,12 @@ put-bytes-requires c κs =
     let g = rw (c .before .before .before .before .work .given .1) at f in
     (rw (c .before .place .ensures, g .1) (block-fits (now (s .b)) _ (c .before .before .before .before .before .before .before .before .pre .0) (g .0)), search needs)
 
-slice-write-b : tie.Need-slice-write-b
+set-lock-requires : tie.Need-set-lock-requires
 unfolding worked Fits
-slice-write-b c =
-    let s = c .before .before .before .before .before .args in
-    let f : Fits (s .work) (length (now (s .«data»))) (now (s .b)) = c .before .before .before .before .before .pre .1 in
-    lock-fits (now (s .b)) _ (c .before .before .before .before .before .pre .0) (rw (c .before .work2 .given .1) at f)
+set-lock-requires c κs =
+    let s = c .before .before .before .before .before .before .args in
+    let f : Fits (s .work) (length (now (s .«data»))) (now (s .b)) = c .before .before .before .before .before .before .pre .1 in
+    (locks-fit (now (s .b)) (c .before .before .before .before .before .before .pre .0), rw (c .before .before .work2 .given .1) at f)
 
 pub do-work-spec : {M : Type 1} → statement M
 unfolding worked Fits
@@ -43,11 +43,9 @@ do-work-spec =
     (λ c κs. sized-long (now (c .before .before .before .before .before .before .args .b)) (c .before .before .before .before .before .before .pre .0))
     put-bytes-requires
     (λ c. search needs)
-    (λ c. search needs)
-    (λ c. search needs)
-    slice-write-b
+    set-lock-requires
     (λ c. rw (c .enum-told .given .1))
     (λ c. search needs)
     (λ c. written _ _ _ _ (c .before .before .before .before .before .before .before .work .given .1) (c .before .before .before .before .place .ensures) (c .before .before .put-bytes .ensures .1))
     (λ c. search needs)
-    (λ c. rw (c .before .work2 .given .1)))
+    (λ c. c .before .before .set-lock .ensures ∙ rw (c .before .before .before .before .before .work2 .given .1)))

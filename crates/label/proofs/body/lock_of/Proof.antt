@@ -1,4 +1,4 @@
--- The arms of the definition: `lock-none` for all that name no lock byte.
+-- The arms of the definition: `lock-none` for all that name no lock.
 -- Assumes nothing.
 use mathlib.Core.Path.{_∙_}
 use denote.Ref.{now}
@@ -14,13 +14,9 @@ lock-of-spec =
     tie.close
     (tie.spec
     (λ c. search needs)
-    (λ c. search needs)
-    (λ c. search needs)
     (λ c κs. search needs)
     (λ c. search needs)
-    (λ c. search needs)
-    (λ c. search needs)
     (λ c κs. search needs)
-    (λ c. c .byte-at .ensures ∙ rw (c .before .before .order .given .1))
-    (λ c. c .byte-at2 .ensures ∙ rw (c .before .before .order2 .given .1))
+    (λ c. c .lock-on .ensures ∙ rw (c .before .before .order .given .1))
+    (λ c. c .lock-on2 .ensures ∙ rw (c .before .before .order2 .given .1))
     (λ c. lock-none (c .before .before .args .order) (now (c .before .before .args .b)) (c .match .keys3)))

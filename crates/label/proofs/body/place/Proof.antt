@@ -1,6 +1,5 @@
 -- Sums and one product of bytes, which is small.
 -- Assumes nothing.
-use mathlib.Core.Path.{refl}
 use native.Mathlib.Omega.{arith}
 use denote.Ref.{now}
 use lib.ListN.{getD}
@@ -15,13 +14,11 @@ unfolding blockAt
 place-spec =
     tie.close
     (tie.spec
-    (λ c. search needs)
-    (λ c. omega (arith, c .shared-slice-known .given 11))
-    (λ c. omega (arith, c .shared-slice-known .given 11))
+    (λ c κs. search needs)
     (λ c. search needs)
     (λ c. omega (arith, c .shared-slice-known2 .given 12))
     (λ c. omega (arith, c .shared-slice-known2 .given 12))
-    (λ c. omega (arith, c .before .shared-slice-known .given 11))
-    (λ c. omega (arith, place-small (c .before .before .args .n) (getD (c .before .before .args .b .now) 12 0) (omega arith) (omega (arith, c .shared-slice-known2 .given 12))))
-    (λ c. omega (arith, c .before .shared-slice-known .given 11, place-small (c .before .before .args .n) (getD (c .before .before .args .b .now) 12 0) (omega arith) (omega (arith, c .shared-slice-known2 .given 12))))
-    (λ c. refl))
+    (λ c. search needs)
+    (λ c. omega (arith, place-small (c .before .before .before .args .n) (getD (c .before .before .before .args .b .now) 12 0) (omega arith) (omega (arith, c .shared-slice-known2 .given 12))))
+    (λ c. omega (arith, c .before .lock-room .ensures, place-small (c .before .before .before .args .n) (getD (c .before .before .before .args .b .now) 12 0) (omega arith) (omega (arith, c .shared-slice-known2 .given 12))))
+    (λ c. rw (c .before .lock-room .ensures .0)))

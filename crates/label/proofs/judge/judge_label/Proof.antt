@@ -1,4 +1,4 @@
--- The first rule that is not kept decides; a body whose head is fine has its lock bytes.
+-- The first rule that is not kept decides; a body whose head is fine has its locks.
 -- Assumes nothing.
 use mathlib.Core.Path.{sym, ap, _∙_}
 use native.Mathlib.Omega.{arith}
@@ -37,26 +37,20 @@ returns-4 c =
     at-zeros (now (h .before .before .args .b)) (h .judge-head .ensures) (s .before .if1 .left) (s .judge-slot .ensures) (m .before .if2 .left)
     (m .judge-mask .ensures) (y .before .if3 .left) (y .judge-bytes .ensures) (c .if4 .taken)
 
-cast-blocks : tie.Need-cast-blocks
-cast-blocks c = omega (arith, c .shared-slice-known2 .given 11)
-
-add-blocks : tie.Need-add-blocks
-add-blocks c = omega (arith, c .shared-slice-known2 .given 11)
-
-judge-bytes-requires-2 : tie.Need-judge-bytes-requires-2
-judge-bytes-requires-2 c κs =
-    let s = c .before .before .before .before .before .before .before .before .before in
+judge-locks-requires : tie.Need-judge-locks-requires
+judge-locks-requires c κs =
+    let s = c .before .before .before .before .before .before .before .before in
     let h = s .before .before .before in
     head-long (now (h .before .before .args .b)) (sym (ap (λ (v : Verdict). v .number) (h .judge-head .ensures)) ∙ s .before .if1 .left)
 
 returns-5 : tie.Need-returns-5
 returns-5 c =
-    let t = c .before .before in
+    let t = c .before in
     let y = t .before .before in
     let m = y .before .before .before in
     let s = m .before .before .before in
     let h = s .before .before .before in
-    c .judge-bytes2 .ensures
+    c .judge-locks .ensures
     ∙ at-locks (now (h .before .before .args .b)) (h .judge-head .ensures) (s .before .if1 .left) (s .judge-slot .ensures) (m .before .if2 .left)
     (m .judge-mask .ensures) (y .before .if3 .left) (y .judge-bytes .ensures) (t .if4 .left)
 
@@ -72,8 +66,5 @@ judge-label-spec =
     returns-3
     (λ c κs. search needs)
     returns-4
-    (λ c. search needs)
-    cast-blocks
-    add-blocks
-    judge-bytes-requires-2
+    judge-locks-requires
     returns-5)
