@@ -12,7 +12,7 @@ use Rattle.frame.specs.Number.{num, part}
 use Rattle.frame.specs.CheckSum.{framed}
 use Rattle.frame.proofs.Frames.{length-framed}
 use Rattle.frame.proofs.Stores.{length-part}
-use Rattle.chip.specs.declared.request.Order.{Order}
+use Rattle.request.specs.declared.chip.Order.{Order}
 use Rattle.chip.specs.declared.step.Chip.{Chip}
 use Rattle.chip.specs.declared.step.Answer.{Answer}
 use Rattle.chip.specs.declared.step.Answer.the-variants as a

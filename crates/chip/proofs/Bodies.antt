@@ -13,8 +13,8 @@ use borrow.Author.Tests.{lt-ltb, le-ltb}
 use Rattle.frame.specs.Number.{num, bytesOf, part}
 use Rattle.frame.proofs.Numbers.{length-bytes}
 use Rattle.frame.proofs.Stores.{sets-off, sets-on, part-off}
-use Rattle.chip.specs.declared.request.Order.{Order}
-use Rattle.chip.specs.declared.request.Order.the-variants as o
+use Rattle.request.specs.declared.chip.Order.{Order}
+use Rattle.request.specs.declared.chip.Order.the-variants as o
 use Rattle.chip.specs.declared.step.Chip.{Chip}
 use Rattle.chip.specs.declared.step.Work.{Work}
 use Rattle.chip.specs.declared.step.Work.the-variants as w

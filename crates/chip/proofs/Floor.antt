@@ -18,18 +18,18 @@ use borrow.Author.Tests.{eqb-true, eqb-false, eq-eqb, ne-eqb, lt-ltb, ltb-true, 
 use Rattle.frame.specs.Choose.{bit}
 use Rattle.frame.specs.Number.{num, bytesOf, part, Bytes}
 use Rattle.frame.proofs.Bools.{and-both, or-off, if-either, below-or-not, same-or-not}
-use Rattle.frame.proofs.Numbers.{num-bytes, num-bytes-lt}
+use Rattle.frame.proofs.Numbers.{num-bytes, num-bytes-lt, word-lt}
 use Rattle.frame.proofs.Stores.{part-off, part-on}
-use Rattle.chip.specs.declared.request.Order.{Order}
-use Rattle.chip.specs.declared.request.Order.the-variants as o
+use Rattle.request.specs.declared.chip.Order.{Order}
+use Rattle.request.specs.declared.chip.Order.the-variants as o
 use Rattle.chip.specs.declared.step.Chip.{Chip}
 use Rattle.chip.specs.declared.step.Answer.the-variants.{Silent}
 use Rattle.chip.specs.declared.step.Stepped.{Stepped}
-use Rattle.chip.specs.Request.{heard}
+use Rattle.request.specs.Chip.{heard}
 use Rattle.chip.specs.Write.{locked, written, countDown, lockDown}
 use Rattle.chip.specs.Step.{act, select, leave}
 use Rattle.chip.specs.Body.{loadOf, storeOf, placeOf, blockAt, worked, stepped, nextChip, saidChip}
-use Rattle.chip.proofs.Shapes.{place-fits, word-lt}
+use Rattle.chip.proofs.Shapes.{place-fits}
 use Rattle.chip.proofs.Steps.{Next}
 use Rattle.chip.proofs.Bodies.{place-low, place-high, store-length, store-off, store-part, store-reload, store-load, work-off, next-by}
 use Rattle.chip.proofs.Keeps.{ChipFine, written-high}

@@ -1,4 +1,4 @@
--- A step keeps a body's length, its rules and that it is bytes; and what a frame of bytes asks has its numbers in their ranges.
+-- A step keeps a body's length, its rules and that it is bytes.
 -- The rules are taken as a record of facts; each of the ways to a next chip keeps them, and byte 64 never changes.
 -- Assumes nothing.
 use mathlib.Core.Path.{_≡_, refl, sym, ap, _∙_}
@@ -13,22 +13,18 @@ use lib.Seq.{sets}
 use borrow.Author.Tests.{eqb-true, eqb-false, eq-eqb, ne-eqb, ltb-false, le-ltb, not-true}
 use Rattle.frame.specs.Number.{num, bytesOf, part, Bytes}
 use Rattle.frame.specs.Judge.{fine}
-use Rattle.frame.specs.CheckSum.{right}
 use Rattle.frame.specs.declared.verdict.Verdict.{Verdict}
 use Rattle.frame.proofs.Lists.{part-values, valuesFrom}
 use Rattle.frame.proofs.Numbers.{length-bytes, bytes-small}
 use Rattle.frame.proofs.Verdicts.{if-fine, not-none}
 use Rattle.frame.proofs.Bools.{and-both, and-off, off-and, or-off, off-or, if-either, below-or-not, not-other}
 use Rattle.frame.proofs.Stores.{sets-off, sets-on, bytes-three, bytes-sets}
-use Rattle.chip.specs.declared.request.Order.{Order}
+use Rattle.request.specs.declared.chip.Order.{Order}
 use Rattle.chip.specs.declared.step.Chip.{Chip}
 use Rattle.chip.specs.declared.step.Stepped.{Stepped}
-use Rattle.chip.specs.Request.{Sound, listed, short, pair, long, decode, heard}
-use Rattle.chip.specs.Request as q
 use Rattle.chip.specs.Write.{written, lockDown}
 use Rattle.chip.specs.Step.{chosen}
 use Rattle.chip.specs.Body.{loadOf, storeOf, placeOf, blockAt, named, nextChip, stepped, chipRules}
-use Rattle.chip.proofs.Shapes.{word-lt}
 use Rattle.chip.proofs.Steps.{Next, Steps, quiet, wrote, steps, same, ended, fixed, drawn, started, called, left, selected, reloading}
 use Rattle.chip.proofs.Bodies.{place-low, place-high, store-length, store-off, store-state, store-id, store-reload, work-length, work-off, next-by}
 
@@ -313,43 +309,3 @@ next-fine order d b l bs h =
 pub next-keeps : (order : Order) (d : ℕ) (b : List ℕ) → length b ≡ 80 → Bytes b → chipRules b .number ≡ 0 → chipRules (nextChip order d b) .number ≡ 0
 next-keeps order d b l bs e =
     ap (λ (v : Verdict). v .number) (fine-rules (nextChip order d b) (next-fine order d b l bs (rules-fine b e)))
-
--- ---- what a frame of bytes asks
-
-short-sound : (c : ℕ) → c < 256 → Sound (short c)
-unfolding short
-short-sound c h =
-    if-either Sound (eqb c 0x0B) _ _ (λ e. q.uid)
-    (λ e. if-either Sound (eqb c 0x0C) _ _ (λ e. q.reset)
-    (λ e. if-either Sound (eqb c 0x0F) _ _ (λ e. q.completion)
-    (λ e. if-either Sound (not (eqb (c % 16) 6) || eqb (c / 16) 0) _ _ (λ e. q.ignored)
-    (λ f. let z : c / 16 ≡ 0 → ⊥ = eqb-false (c / 16) 0 (or-off (not (eqb (c % 16) 6)) (eqb (c / 16) 0) f .1) in
-    q.marker (c / 16) (omega arith) (omega arith)))))
-
-pair-sound : (c p : ℕ) → p < 256 → Sound (pair c p)
-unfolding pair
-pair-sound c p h =
-    if-either Sound (eqb c 0x06) _ _
-    (λ e. if-either Sound (eqb p 0) _ _ (λ e. q.initiate) (λ e. if-either Sound (eqb p 4) _ _ (λ e. q.pcall) (λ e. q.ignored)))
-    (λ e. if-either Sound (eqb c 0x0E) _ _ (λ e. q.select p h)
-    (λ e. if-either Sound (eqb c 0x08 && listed p) _ _ (λ e. q.read p (and-both (eqb c 0x08) (listed p) e .1)) (λ e. q.ignored)))
-
-long-sound : (c a v : ℕ) → v < 2 ^ 32 → Sound (long c a v)
-unfolding long
-long-sound c a v h =
-    if-either Sound (eqb c 0x09 && listed a) _ _ (λ e. q.write a v (and-both (eqb c 0x09) (listed a) e .1) h) (λ e. q.ignored)
-
-pub decode-sound : (f : List ℕ) → Bytes f → Sound (decode f)
-unfolding decode
-decode-sound f h =
-    if-either Sound (not (right f)) _ _ (λ e. q.ignored)
-    (λ e. if-either Sound (eqb (length f) 3) _ _ (λ e. short-sound (getD f 0 0) (h 0))
-    (λ e. if-either Sound (eqb (length f) 4) _ _ (λ e. pair-sound (getD f 0 0) (getD f 1 0) (h 1))
-    (λ e. if-either Sound (eqb (length f) 8) _ _ (λ e. long-sound (getD f 0 0) (getD f 1 0) (num (part 2 4 f)) (word-lt 2 f h)) (λ e. q.ignored))))
-
-pub heard-sound : (e : ℕ) (f : List ℕ) → Bytes f → Sound (heard e f)
-unfolding heard
-heard-sound e f h =
-    if-either Sound (eqb e 1) _ _ (λ g. q.off)
-    (λ g. if-either Sound (eqb e 2) _ _ (λ g. q.on)
-    (λ g. if-either Sound (eqb e 5) _ _ (λ g. decode-sound f h) (λ g. q.ignored)))

@@ -1,26 +1,19 @@
--- What code needs of the definitions: four bytes fit a word, how a counter falls, where a block stands, and that only a write names a block.
+-- What code needs of the definitions: how a counter falls, where a block stands, and that only a write names a block.
 -- By the cases of a test, or of the enum.
 -- Assumes nothing.
 use mathlib.Core.Path.{_≡_, refl}
 use mathlib.Core.List.{List, [], _∷_}
-use Prim.Native.Nat.{ℕ, _+_, _*_, _^_, _≤_, _<_}
+use Prim.Native.Nat.{ℕ, _+_, _*_, _≤_, _<_}
 use native.Mathlib.Omega.{arith}
 use lib.Dec.{ltb}
-use lib.ListN.{drop, length-take}
 use types.Run.{OneOf, miss}
 use denote.Enum.Declared.{tagOf}
 use borrow.Author.Tests.{ltb-true}
-use Rattle.frame.specs.Number.{num, part, Bytes}
 use Rattle.frame.proofs.Bools.{if-either}
-use Rattle.frame.proofs.Numbers.{num-lt, bytes-part}
-use Rattle.chip.specs.declared.request.Order.{Order}
-use Rattle.chip.specs.declared.request.Order.the-variants as o
+use Rattle.request.specs.declared.chip.Order.{Order}
+use Rattle.request.specs.declared.chip.Order.the-variants as o
 use Rattle.chip.specs.Body.{named, placeOf}
-use Rattle.chip.proofs.request.Order.{the-type}
-
--- four bytes make a number below 2 ^ 32
-pub word-lt : (at : ℕ) (s : List ℕ) → Bytes s → num (part at 4 s) < 2 ^ 32
-word-lt at s h = num-lt 4 (part at 4 s) (bytes-part at 4 s h) (rw (length-take 4 (drop at s)) (omega arith))
+use Rattle.request.proofs.chip.Order.{the-type}
 
 -- a block stands before the UID
 pub place-fits : (n : ℕ) → placeOf n + 4 ≤ 68

@@ -7,8 +7,8 @@ use Prim.Native.Nat.{ℕ, suc, _+_, _*_, _/_, _%_}
 use native.Mathlib.Omega.{arith}
 use lib.Dec.{eqb}
 use borrow.Author.Tests.{eqb-true, eqb-false}
-use Rattle.chip.specs.declared.request.Order.{Order}
-use Rattle.chip.specs.declared.request.Order.the-variants as o
+use Rattle.request.specs.declared.chip.Order.{Order}
+use Rattle.request.specs.declared.chip.Order.the-variants as o
 use Rattle.chip.specs.declared.step.Chip.{Chip}
 use Rattle.chip.specs.declared.step.Answer.{Answer}
 use Rattle.chip.specs.declared.step.Answer.the-variants as a

@@ -9,8 +9,8 @@ use Rattle.frame.specs.Choose.{if_then_else_}
 use Rattle.frame.specs.Number.{num, bytesOf, part}
 use Rattle.frame.specs.Judge.{fine, bad}
 use Rattle.frame.specs.declared.verdict.Verdict.{Verdict}
-use Rattle.chip.specs.declared.request.Order.{Order}
-use Rattle.chip.specs.declared.request.Order.the-variants as o
+use Rattle.request.specs.declared.chip.Order.{Order}
+use Rattle.request.specs.declared.chip.Order.the-variants as o
 use Rattle.chip.specs.declared.step.Chip.{Chip}
 use Rattle.chip.specs.declared.step.Answer.{Answer}
 use Rattle.chip.specs.declared.step.Work.{Work}

@@ -1,5 +1,4 @@
 -- A chip, as definitions: document 01, "Chips", "Events" and the chip body of "Rack file".
-pub mod Request
 pub mod Write
 pub mod Step
 pub mod Body

@@ -1,6 +1,6 @@
 // A chip's body: its rules, the chip it holds, and a step in place.
-use crate::request::Order;
-use crate::request::word_at;
+use request::chip::Order;
+use frame::number::word_at;
 use crate::step::Answer;
 use crate::step::Chip;
 use crate::step::Stepped;

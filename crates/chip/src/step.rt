@@ -1,5 +1,5 @@
 // What a chip does with an order: each step takes the old chip and gives back the new one, what it answers and what is written.
-use crate::request::Order;
+use request::chip::Order;
 ghost use mathlib.Core.Path.{_≡_};
 ghost use mathlib.Core.Bool.{_||_};
 ghost use lib.Dec.{eqb};

@@ -7,7 +7,7 @@ use native.Mathlib.Nat.{zero-div, zero-lt-suc, pow-suc, mod-one, mod-lt, mod-eq-
 use native.Mathlib.Omega.{arith}
 use lib.Arith.{mod-mul}
 use lib.Dec.{lit<}
-use lib.ListN.{length, getD, take, drop, length-drop}
+use lib.ListN.{length, getD, take, drop, length-drop, length-take}
 use lib.Seq.{getD-drop, drop-cons}
 use lib.Pow.{shr-shr}
 use Rattle.frame.specs.Number.{num, bytesOf, part, Bytes}
@@ -111,3 +111,7 @@ behind-more s i {n} {b} z l e f =
     let d : num (drop (i - 1) s) ≡ getD s (i - 1) 0 + num (drop (suc (i - 1)) s) * 256 = ap num (drop-cons s (i - 1) 0 (omega arith)) in
     let r : num (drop (suc (i - 1)) s) ≡ num (drop i s) = ap (λ (k : ℕ). num (drop k s)) q in
     omega arith
+
+-- four bytes make a number below 2 ^ 32
+pub word-lt : (at : ℕ) (s : List ℕ) → Bytes s → num (part at 4 s) < 2 ^ 32
+word-lt at s h = num-lt 4 (part at 4 s) (bytes-part at 4 s h) (rw (length-take 4 (drop at s)) (omega arith))

@@ -43,3 +43,11 @@ pub fn number_at(s: &[u8], at: usize, k: usize) -> u64
     let end = at + k;
     number_of(&s[at..end])
 }
+
+// Four bytes as a block.
+pub fn word_at(s: &[u8], at: usize) -> u32
+    requires { ⌜ at + 4 ≤ length (now s) ⌝ }
+    ensures { λ r. ⌜ r ≡ num (part at 4 (now (s .entry))) ⌝ }
+{
+    number_at(s, at, 4) as u32
+}

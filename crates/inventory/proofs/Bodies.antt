@@ -9,18 +9,18 @@ use lib.ListN.{length}
 use Rattle.frame.specs.Choose.{if_then_else_}
 use Rattle.frame.specs.Number.{part, Bytes}
 use Rattle.frame.specs.Ending.{endsInSlot}
-use Rattle.ask.specs.Label.{bare}
+use Rattle.request.specs.Label.{bare}
 use Rattle.label.specs.Answer as label
 use Rattle.label.specs.Answer.{answerFrame}
 use Rattle.label.specs.Facts.{LabelFine}
 use Rattle.label.specs.Slots.{on, clear, during}
-use Rattle.ask.specs.declared.label.Family.{Family}
-use Rattle.ask.specs.declared.label.Call.{Call}
-use Rattle.ask.specs.declared.label.Call.the-variants.{Inventory, EndOfFrame}
+use Rattle.request.specs.declared.label.Family.{Family}
+use Rattle.request.specs.declared.label.Call.{Call}
+use Rattle.request.specs.declared.label.Call.the-variants.{Inventory, EndOfFrame}
 use Rattle.label.specs.declared.step.Answer.the-variants.{Silent, Found}
 use Rattle.label.proofs.Fine.{fine-rules}
 use Rattle.label.proofs.Slots.{first, step, last, said-first, said-step, during-fine, during-bytes, during-uid, during-length, clear-fine, clear-bytes, clear-uid, clear-length, clear-clear, on-clear}
-use Rattle.chip.specs.declared.request.Order.the-variants.{Ignored}
+use Rattle.request.specs.declared.chip.Order.the-variants.{Ignored}
 use Rattle.rack.specs.File.{bodyRules}
 use Rattle.rack.specs.Event.{Signal, nextBody, saidBy, speaks, frameOf, answerBody}
 use Rattle.inventory.specs.Walk.{uidAt, clearBody}

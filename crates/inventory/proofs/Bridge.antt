@@ -9,7 +9,7 @@ use native.Mathlib.Omega.{arith}
 use lib.Dec.{leb, ltb}
 use lib.ListN.{length, getD}
 use Rattle.frame.specs.Choose.{gather}
-use Rattle.ask.specs.declared.label.Family.{Family}
+use Rattle.request.specs.declared.label.Family.{Family}
 use Rattle.inventory.specs.Endings.{sumTo}
 use Rattle.inventory.specs.Walk.{Trip, slotOutcome, hits, round, join, start, turn, upto, explore, uids, cleared}
 use Rattle.inventory.specs.Promise.{flat}

@@ -14,20 +14,20 @@ use Rattle.frame.specs.Number.{Bytes}
 use Rattle.frame.specs.declared.verdict.Verdict.{Verdict}
 use Rattle.frame.proofs.Numbers.{bytes-part}
 use Rattle.frame.proofs.Verdicts.{if-fine, not-none}
-use Rattle.ask.specs.Label as labels
-use Rattle.ask.specs.Label.{bare}
-use Rattle.ask.specs.declared.label.Family.{Family}
-use Rattle.ask.specs.declared.label.Family.the-variants.{Any, Only}
-use Rattle.ask.specs.declared.label.Call.{Call}
-use Rattle.ask.specs.declared.label.Call.the-variants.{Inventory, EndOfFrame}
-use Rattle.chip.specs.Request as chips
+use Rattle.request.specs.Label as labels
+use Rattle.request.specs.Label.{bare}
+use Rattle.request.specs.declared.label.Family.{Family}
+use Rattle.request.specs.declared.label.Family.the-variants.{Any, Only}
+use Rattle.request.specs.declared.label.Call.{Call}
+use Rattle.request.specs.declared.label.Call.the-variants.{Inventory, EndOfFrame}
+use Rattle.request.specs.Chip as chips
 use Rattle.rack.specs.File.{countOf, entryAt, kindAt, lengthAt, startOf, bodyAt, rebuilt, lengthFits, entryVerdict, bodyRules}
 use Rattle.rack.specs.Facts.{RackFine}
 use Rattle.rack.specs.Event.{Signal, Outcome, signalOf, next, answer, nextRack, answers, played, refusalOf, eventOf}
 use Rattle.inventory.specs.Walk.{request, sent}
 use Rattle.inventory.proofs.Sent.{signal, draws}
 use Rattle.label.proofs.Fine.{rules-fine}
-use Rattle.ask.proofs.Back.{sixteen-back, sixteen-afi-back}
+use Rattle.request.proofs.Back.{sixteen-back, sixteen-afi-back}
 use Rattle.rack.proofs.Places.{gather-ext}
 use Rattle.rack.proofs.Rebuilt.{rebuilt-ext}
 use Rattle.rack.proofs.Verdicts.{fine-rack}

@@ -17,8 +17,8 @@ use Rattle.frame.proofs.Puts.{sets-append}
 use Rattle.frame.proofs.Stores.{part-on}
 use Rattle.label.specs.Step.{passes}
 use Rattle.label.specs.Slots.{on}
-use Rattle.ask.specs.declared.label.Family.{Family}
-use Rattle.ask.specs.declared.label.Family.the-variants.{Any}
+use Rattle.request.specs.declared.label.Family.{Family}
+use Rattle.request.specs.declared.label.Family.the-variants.{Any}
 use Rattle.rack.specs.File.{countOf, entryAt, kindAt, lengthAt, startOf, bodyAt}
 use Rattle.rack.specs.Facts.{RackFine}
 use Rattle.inventory.specs.Walk.{uidAt, uidsTo, uids}

@@ -10,8 +10,8 @@ use Rattle.frame.specs.Choose.{if_then_else_, gather}
 use Rattle.frame.specs.Number.{num, part, Bytes}
 use Rattle.label.specs.Step.{passes}
 use Rattle.label.specs.Slots.{on}
-use Rattle.ask.specs.declared.label.Family.{Family}
-use Rattle.ask.specs.declared.label.Family.the-variants.{Any}
+use Rattle.request.specs.declared.label.Family.{Family}
+use Rattle.request.specs.declared.label.Family.the-variants.{Any}
 use Rattle.rack.specs.File.{countOf, kindAt, lengthAt, bodyAt, rebuilt}
 use Rattle.inventory.specs.Endings.{count}
 use Rattle.inventory.specs.Walk.{uidAt, uidsTo, uids, clearBody, cleared}

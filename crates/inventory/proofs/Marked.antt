@@ -20,8 +20,8 @@ use Rattle.label.specs.Locks.{lockRoom, locksVerdict}
 use Rattle.label.specs.Body.{headRules, slotRules, over, maskVerdict, labelRules}
 use Rattle.label.specs.Slots.{on}
 use Rattle.label.specs.Step.{passes}
-use Rattle.ask.specs.declared.label.Family.{Family}
-use Rattle.ask.specs.declared.label.Family.the-variants.{Any}
+use Rattle.request.specs.declared.label.Family.{Family}
+use Rattle.request.specs.declared.label.Family.the-variants.{Any}
 use Rattle.rack.specs.File.{startOf, headVerdict, lengthFits, entryVerdict, bodyRules, moved, bodyVerdict, endVerdict, verdictOf}
 use Rattle.inventory.specs.Endings.{count, keepIf, keep, different, ending, sumTo, shared}
 use Rattle.inventory.specs.Walk.{uidAt, uidsTo, uids, anyOf, twins, refusalOf, walkOf}

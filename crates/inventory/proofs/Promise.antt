@@ -11,8 +11,8 @@ use lib.ListN.{length}
 use lib.Seq.{sets}
 use Rattle.frame.specs.Choose.{if_then_else_}
 use Rattle.frame.specs.Number.{Bytes}
-use Rattle.ask.specs.declared.label.Family.{Family}
-use Rattle.ask.specs.declared.label.Family.the-variants.{Any}
+use Rattle.request.specs.declared.label.Family.{Family}
+use Rattle.request.specs.declared.label.Family.the-variants.{Any}
 use Rattle.rack.specs.File.{countOf, verdictOf}
 use Rattle.rack.specs.Facts.{RackFine}
 use Rattle.inventory.specs.declared.walk.Walked.{Walked}

@@ -15,7 +15,7 @@ use Rattle.frame.specs.Choose.{if_then_else_, gather}
 use Rattle.frame.specs.Number.{num, part}
 use Rattle.frame.proofs.Bools.{or-off}
 use Rattle.label.specs.Slots.{on}
-use Rattle.ask.specs.declared.label.Family.the-variants.{Any}
+use Rattle.request.specs.declared.label.Family.the-variants.{Any}
 use Rattle.rack.specs.File.{countOf, kindAt, bodyAt}
 use Rattle.inventory.specs.Endings.{one, count}
 use Rattle.inventory.specs.Walk.{uidAt, uidsTo, uids, anyOf, among, twins}

@@ -8,9 +8,9 @@ use native.Mathlib.Omega.{arith}
 use lib.ListN.{length, getD, replicate}
 use Rattle.frame.specs.Choose.{gather}
 use Rattle.frame.specs.Number.{part}
-use Rattle.ask.specs.declared.label.Family.{Family}
-use Rattle.ask.specs.declared.label.Call.{Call}
-use Rattle.ask.specs.declared.label.Call.the-variants.{Inventory, EndOfFrame}
+use Rattle.request.specs.declared.label.Family.{Family}
+use Rattle.request.specs.declared.label.Call.{Call}
+use Rattle.request.specs.declared.label.Call.the-variants.{Inventory, EndOfFrame}
 use Rattle.rack.specs.File.{countOf, kindAt, lengthAt, bodyAt, rebuilt}
 use Rattle.rack.specs.Facts.{RackFine}
 use Rattle.rack.specs.Event.{Outcome, opened}

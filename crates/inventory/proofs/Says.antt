@@ -3,7 +3,7 @@ use mathlib.Core.Path.{_≡_}
 use mathlib.Core.List.{List, []}
 use Prim.Native.Nat.{ℕ}
 use Rattle.chip.specs.Body.{nextChip, saidChip}
-use Rattle.chip.specs.declared.request.Order.the-variants.{Ignored}
+use Rattle.request.specs.declared.chip.Order.the-variants.{Ignored}
 use Rattle.chip.specs.declared.step.Answer.the-variants as chip
 use Rattle.chip.proofs.Floor.{ignores-3-4}
 

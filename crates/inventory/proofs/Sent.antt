@@ -3,9 +3,9 @@ use mathlib.Core.List.{List, [], _∷_}
 use Prim.Native.Nat.{ℕ}
 use lib.ListN.{replicate}
 use Rattle.frame.specs.Number.{part}
-use Rattle.ask.specs.Label.{bare}
-use Rattle.ask.specs.declared.label.Call.{Call}
-use Rattle.chip.specs.declared.request.Order.the-variants as o
+use Rattle.request.specs.Label.{bare}
+use Rattle.request.specs.declared.label.Call.{Call}
+use Rattle.request.specs.declared.chip.Order.the-variants as o
 use Rattle.rack.specs.File.{countOf}
 use Rattle.rack.specs.Event.{Signal, nextRack, answers}
 

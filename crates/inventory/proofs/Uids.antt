@@ -17,7 +17,7 @@ use Rattle.frame.proofs.Endings.{ends-longer′}
 use Rattle.frame.proofs.Frames.{length-framed}
 use Rattle.label.specs.Answer.{answerFrame}
 use Rattle.label.specs.Slots.{on}
-use Rattle.ask.specs.declared.label.Family.{Family}
+use Rattle.request.specs.declared.label.Family.{Family}
 use Rattle.label.specs.declared.step.Answer.the-variants.{Found}
 use Rattle.rack.specs.File.{countOf, kindAt, bodyAt}
 use Rattle.rack.specs.Event.{opened}

@@ -5,7 +5,7 @@ use Prim.Native.Nat.{ℕ, suc, _+_, _*_, _/_, _≤_}
 use lib.ListN.{length}
 use lib.Seq.{sets}
 use Rattle.frame.specs.Number.{bytesOf}
-use Rattle.ask.specs.declared.label.Family.{Family}
+use Rattle.request.specs.declared.label.Family.{Family}
 use Rattle.inventory.specs.declared.walk.Walked.{Walked}
 use Rattle.inventory.specs.Endings.{count, sumTo, shared}
 use Rattle.inventory.specs.Walk.{uids, cleared}

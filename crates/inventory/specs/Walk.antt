@@ -10,8 +10,8 @@ use Rattle.frame.specs.Number.{num, bytesOf, part}
 use Rattle.frame.specs.CheckSum.{framed}
 use Rattle.frame.specs.Ending.{longer, bytesFor}
 use Rattle.label.specs.Slots.{on, clear}
-use Rattle.ask.specs.declared.label.Family.{Family}
-use Rattle.ask.specs.declared.label.Family.the-variants.{Any, Only}
+use Rattle.request.specs.declared.label.Family.{Family}
+use Rattle.request.specs.declared.label.Family.the-variants.{Any, Only}
 use Rattle.rack.specs.File.{countOf, kindAt, bodyAt, rebuilt, verdictOf}
 use Rattle.rack.specs.Event.{Outcome, eventOf}
 use Rattle.inventory.specs.declared.walk.Walked.{Walked}

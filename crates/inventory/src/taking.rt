@@ -1,5 +1,5 @@
 // The UIDs of the labels that take part, as numbers.
-use ask::label::Family;
+use request::label::Family;
 use frame::number::number_at;
 use label::step::passing;
 use rack::file::count;
@@ -12,7 +12,7 @@ ghost use lib.ListN.{length};
 ghost use lib.Seq.{sets};
 ghost use Rattle.frame.specs.Number.{part};
 ghost use Rattle.label.specs.Slots.{on};
-ghost use Rattle.ask.specs.declared.label.Family.the-variants.{Any};
+ghost use Rattle.request.specs.declared.label.Family.the-variants.{Any};
 ghost use Rattle.rack.specs.Facts.{RackFine};
 ghost use Rattle.inventory.specs.Walk.{uidAt, uids};
 ghost use Rattle.inventory.specs.Numbers.{First};

@@ -5,7 +5,7 @@ use crate::round::play_round;
 use crate::taking::collect;
 use crate::taking::narrow;
 use crate::twins::has_twins;
-use ask::label::Family;
+use request::label::Family;
 use rack::file::count;
 use rack::file::judge;
 ghost use mathlib.Core.Path.{_≡_};

@@ -13,8 +13,8 @@ use Rattle.frame.specs.CheckSum.{framed}
 use Rattle.frame.proofs.Lists.{part-values}
 use Rattle.frame.proofs.Frames.{length-framed}
 use Rattle.frame.proofs.Stores.{length-part}
-use Rattle.ask.specs.declared.label.Call.{Call}
-use Rattle.ask.specs.declared.label.Request.{Request}
+use Rattle.request.specs.declared.label.Call.{Call}
+use Rattle.request.specs.declared.label.Request.{Request}
 use Rattle.label.specs.declared.step.Label.{Label}
 use Rattle.label.specs.declared.step.Answer.{Answer}
 use Rattle.label.specs.declared.step.Answer.the-variants as a

@@ -5,8 +5,8 @@ use mathlib.Core.List.{List}
 use Prim.Native.Nat.{ℕ}
 use native.Mathlib.Omega.{arith}
 use lib.ListN.{getD}
-use Rattle.ask.specs.declared.label.Call.{Call}
-use Rattle.ask.specs.declared.label.Request.{Request}
+use Rattle.request.specs.declared.label.Call.{Call}
+use Rattle.request.specs.declared.label.Request.{Request}
 use Rattle.label.specs.declared.step.Label.{Label}
 use Rattle.label.specs.declared.step.Stepped.{Stepped}
 use Rattle.label.specs.Step.{act}

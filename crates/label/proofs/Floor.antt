@@ -13,13 +13,13 @@ use Rattle.frame.specs.Choose.{bit}
 use Rattle.frame.specs.Number.{num, part, Bytes}
 use Rattle.frame.proofs.Bools.{below-or-not, same-or-not, if-both}
 use Rattle.frame.proofs.Stores.{sets-off, part-off, part-ext}
-use Rattle.ask.specs.declared.label.Target.{Target}
-use Rattle.ask.specs.declared.label.Target.the-variants as t
-use Rattle.ask.specs.declared.label.Family.{Family}
-use Rattle.ask.specs.declared.label.Order.the-variants as o
-use Rattle.ask.specs.declared.label.Call.{Call}
-use Rattle.ask.specs.declared.label.Call.the-variants as k
-use Rattle.ask.specs.declared.label.Request.{Request}
+use Rattle.request.specs.declared.label.Target.{Target}
+use Rattle.request.specs.declared.label.Target.the-variants as t
+use Rattle.request.specs.declared.label.Family.{Family}
+use Rattle.request.specs.declared.label.Order.the-variants as o
+use Rattle.request.specs.declared.label.Call.{Call}
+use Rattle.request.specs.declared.label.Call.the-variants as k
+use Rattle.request.specs.declared.label.Request.{Request}
 use Rattle.label.specs.declared.step.Label.{Label}
 use Rattle.label.specs.declared.step.Answer.the-variants as a
 use Rattle.label.specs.declared.step.Work.{Work}

@@ -12,12 +12,12 @@ use lib.Pow.{pow-mono}
 use borrow.Author.Tests.{eqb-true, ne-eqb}
 use Rattle.frame.specs.Number.{Bytes}
 use Rattle.frame.proofs.Bools.{same-or-not}
-use Rattle.ask.specs.declared.label.Call.{Call}
-use Rattle.ask.specs.declared.label.Request.{Request}
+use Rattle.request.specs.declared.label.Call.{Call}
+use Rattle.request.specs.declared.label.Request.{Request}
 use Rattle.label.specs.declared.step.Label.{Label}
 use Rattle.label.specs.declared.step.Work.{Work}
 use Rattle.label.specs.declared.step.Stepped.{Stepped}
-use Rattle.ask.specs.Label.{Sound}
+use Rattle.request.specs.Label.{Sound}
 use Rattle.label.specs.Step.{label, withSlot, ended, ready}
 use Rattle.label.specs.Body.{loadOf, storeOf, worked, stepped, nextLabel, named, Fits}
 use Rattle.label.specs.Facts.{LabelFine}

@@ -6,14 +6,14 @@ use Prim.Native.Nat.{ℕ}
 use types.Run.{OneOf, miss}
 use denote.Enum.Declared.{tagOf}
 use Rattle.label.specs.declared.step.Label.{Label}
-use Rattle.ask.specs.declared.label.Order.{Order}
-use Rattle.ask.specs.declared.label.Order.the-variants as o
-use Rattle.ask.specs.declared.label.Call.{Call}
-use Rattle.ask.specs.declared.label.Call.the-variants as k
+use Rattle.request.specs.declared.label.Order.{Order}
+use Rattle.request.specs.declared.label.Order.the-variants as o
+use Rattle.request.specs.declared.label.Call.{Call}
+use Rattle.request.specs.declared.label.Call.the-variants as k
 use Rattle.label.specs.Step.{silent, passed}
 use Rattle.label.specs.Body.{lockOf, named}
-use Rattle.ask.proofs.label.Order.{the-type as order-type}
-use Rattle.ask.proofs.label.Call.{the-type as call-type}
+use Rattle.request.proofs.label.Order.{the-type as order-type}
+use Rattle.request.proofs.label.Call.{the-type as call-type}
 
 -- the orders but Select, by their places
 abbrev unselect : List ℕ

@@ -18,13 +18,13 @@ use Rattle.frame.specs.Ending.{endsInSlot}
 use Rattle.frame.proofs.Bools.{and-both, same-or-not, if-both, if-same}
 use Rattle.frame.proofs.Numbers.{bytes-small}
 use Rattle.frame.proofs.Stores.{sets-off, part-off, sets-over, bytes-cons, bytes-sets}
-use Rattle.ask.specs.declared.label.Family.{Family}
-use Rattle.ask.specs.declared.label.Call.the-variants as k
-use Rattle.ask.specs.declared.label.Request.{Request}
+use Rattle.request.specs.declared.label.Family.{Family}
+use Rattle.request.specs.declared.label.Call.the-variants as k
+use Rattle.request.specs.declared.label.Request.{Request}
 use Rattle.label.specs.declared.step.Label.{Label}
 use Rattle.label.specs.declared.step.Answer.the-variants as a
 use Rattle.label.specs.declared.step.Stepped.{Stepped}
-use Rattle.ask.specs.Label.{bare}
+use Rattle.request.specs.Label.{bare}
 use Rattle.label.specs.Step.{withSlot, ended, told, silent, passes, ready, turn, inventory, endOfFrame, awake, called, act}
 use Rattle.label.specs.Body.{loadOf, storeOf, worked, stepped, nextLabel, saidLabel}
 use Rattle.label.specs.Answer.{answerFrame}

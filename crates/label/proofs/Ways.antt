@@ -9,19 +9,19 @@ use borrow.Author.Tests.{eqb-true, eqb-false, ltb-true, ltb-false, not-false}
 use Rattle.frame.specs.Choose.{if_then_else_, bit, set?}
 use Rattle.frame.specs.Ending.{endsIn, endsInSlot}
 use Rattle.frame.proofs.Bools.{and-both, if-either}
-use Rattle.ask.specs.declared.label.Target.{Target}
-use Rattle.ask.specs.declared.label.Family.{Family}
-use Rattle.ask.specs.declared.label.Order.{Order}
-use Rattle.ask.specs.declared.label.Order.the-variants as o
-use Rattle.ask.specs.declared.label.Call.{Call}
-use Rattle.ask.specs.declared.label.Call.the-variants as k
-use Rattle.ask.specs.declared.label.Request.{Request}
+use Rattle.request.specs.declared.label.Target.{Target}
+use Rattle.request.specs.declared.label.Family.{Family}
+use Rattle.request.specs.declared.label.Order.{Order}
+use Rattle.request.specs.declared.label.Order.the-variants as o
+use Rattle.request.specs.declared.label.Call.{Call}
+use Rattle.request.specs.declared.label.Call.the-variants as k
+use Rattle.request.specs.declared.label.Request.{Request}
 use Rattle.label.specs.declared.step.Label.{Label}
 use Rattle.label.specs.declared.step.Answer.{Answer}
 use Rattle.label.specs.declared.step.Answer.the-variants as a
 use Rattle.label.specs.declared.step.Work.the-variants as w
 use Rattle.label.specs.declared.step.Stepped.{Stepped}
-use Rattle.ask.specs.Label.{Sound, Small}
+use Rattle.request.specs.Label.{Sound, Small}
 use Rattle.label.specs.Step.{withState, withSlot, withAfi, withDsfid, withLocks, ended, told, silent, done, off, on, passes, ready, turn, inventory, endOfFrame, acts, readBlock, writeBlock, lockBlock, writeAfi, lockAfi, writeDsfid, lockDsfid, perform, passed, asked, awake, called, act}
 use Rattle.label.specs.Locks.{lockOn}
 use Rattle.label.specs.Body.{lockOf, named}

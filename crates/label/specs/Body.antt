@@ -10,11 +10,11 @@ use Rattle.frame.specs.Choose.{if_then_else_}
 use Rattle.frame.specs.Number.{num, bytesOf, part}
 use Rattle.frame.specs.Judge.{fine, bad, orElse, firstOf, byteVerdict}
 use Rattle.frame.specs.declared.verdict.Verdict.{Verdict}
-use Rattle.ask.specs.declared.label.Order.{Order}
-use Rattle.ask.specs.declared.label.Order.the-variants as o
-use Rattle.ask.specs.declared.label.Call.{Call}
-use Rattle.ask.specs.declared.label.Call.the-variants as k
-use Rattle.ask.specs.declared.label.Request.{Request}
+use Rattle.request.specs.declared.label.Order.{Order}
+use Rattle.request.specs.declared.label.Order.the-variants as o
+use Rattle.request.specs.declared.label.Call.{Call}
+use Rattle.request.specs.declared.label.Call.the-variants as k
+use Rattle.request.specs.declared.label.Request.{Request}
 use Rattle.label.specs.declared.step.Label.{Label}
 use Rattle.label.specs.declared.step.Answer.{Answer}
 use Rattle.label.specs.declared.step.Work.{Work}

@@ -7,7 +7,7 @@ use lib.ListN.{getD}
 use lib.Seq.{sets}
 use Rattle.frame.specs.Choose.{if_then_else_}
 use Rattle.frame.specs.Number.{bytesOf}
-use Rattle.ask.specs.declared.label.Family.{Family}
+use Rattle.request.specs.declared.label.Family.{Family}
 use Rattle.label.specs.Step.{passes}
 
 -- it takes part: state 1 or 3, and the AFI passes

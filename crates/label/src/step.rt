@@ -1,9 +1,9 @@
 // What a label does with a request: each step takes the old label and gives back the new one, what it answers and what is written.
-use ask::label::Call;
-use ask::label::Family;
-use ask::label::Order;
-use ask::label::Request;
-use ask::label::Target;
+use request::label::Call;
+use request::label::Family;
+use request::label::Order;
+use request::label::Request;
+use request::label::Target;
 use frame::uid::ends_in;
 use frame::uid::ends_in_slot;
 use frame::uid::same_uid;

@@ -15,10 +15,10 @@ use Rattle.frame.specs.declared.verdict.Verdict.{Verdict}
 use Rattle.frame.proofs.Bools.{and-both}
 use Rattle.frame.proofs.Puts.{sets-front}
 use Rattle.frame.proofs.Verdicts.{not-none}
-use Rattle.ask.specs.Label as labels
-use Rattle.ask.specs.declared.label.Request.{Request}
-use Rattle.chip.specs.Request as chips
-use Rattle.chip.specs.declared.request.Order.{Order}
+use Rattle.request.specs.Label as labels
+use Rattle.request.specs.declared.label.Request.{Request}
+use Rattle.request.specs.Chip as chips
+use Rattle.request.specs.declared.chip.Order.{Order}
 use Rattle.rack.specs.declared.event.Said.{Said}
 use Rattle.rack.specs.declared.event.Report.{Report}
 use Rattle.rack.specs.File.{countOf, kindAt, lengthAt, offsetAt, startOf, bodyAt, verdictOf}

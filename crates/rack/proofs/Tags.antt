@@ -13,18 +13,19 @@ use Rattle.frame.specs.declared.verdict.Verdict.{Verdict}
 use Rattle.frame.proofs.Bools.{and-both, if-both}
 use Rattle.label.specs.declared.step.Answer.{Answer}
 use Rattle.label.specs.declared.step.Answer.the-variants as a
-use Rattle.ask.specs.Label as labels
+use Rattle.request.specs.Label as labels
 use Rattle.label.specs.Body.{Sized, labelRules, nextLabel, saidLabel}
 use Rattle.label.specs.Answer.{Told}
-use Rattle.ask.proofs.Decoded as label-decoded
+use Rattle.request.proofs.Decoded as label-decoded
 use Rattle.label.proofs.Locked.{room-same}
 use Rattle.label.proofs.Fine as label-fine
 use Rattle.label.proofs.Keeps as label-keeps
 use Rattle.label.proofs.Answers as label-answers
 use Rattle.label.proofs.Floor.{numbers-stay}
-use Rattle.chip.specs.Request as chips
+use Rattle.request.specs.Chip as chips
 use Rattle.chip.specs.Body.{chipRules, nextChip, saidChip}
 use Rattle.chip.proofs.Keeps as chip-keeps
+use Rattle.request.proofs.Orders as chip-decoded
 use Rattle.chip.proofs.Answers as chip-answers
 use Rattle.rack.specs.declared.event.Said.the-variants as s
 use Rattle.rack.specs.File.{lengthFits, bodyRules}
@@ -40,7 +41,7 @@ pub record SignalSound (e : Signal) : Type 0 where
 
 -- what every event and frame make
 pub signal-sound : (e : ℕ) (f : List ℕ) → Bytes f → SignalSound (signalOf e f)
-signal-sound e f b = record { call = label-decoded.heard-sound e f b; sent = label-decoded.data-bytes f b; asked = chip-keeps.heard-sound e f b }
+signal-sound e f b = record { call = label-decoded.heard-sound e f b; sent = label-decoded.data-bytes f b; asked = chip-decoded.heard-sound e f b }
 
 -- ---- what a length that fits is
 

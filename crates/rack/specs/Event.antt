@@ -6,14 +6,14 @@ use Prim.Native.Nat.{ℕ, _<_}
 use lib.Dec.{eqb, ltb, leb}
 use lib.ListN.{length, getD, drop}
 use Rattle.frame.specs.Choose.{if_then_else_, gather}
-use Rattle.ask.specs.Label as labels
+use Rattle.request.specs.Label as labels
 use Rattle.label.specs.Body.{nextLabel, saidLabel}
 use Rattle.label.specs.Answer as label
-use Rattle.ask.specs.declared.label.Request.{Request}
-use Rattle.chip.specs.Request as chips
+use Rattle.request.specs.declared.label.Request.{Request}
+use Rattle.request.specs.Chip as chips
 use Rattle.chip.specs.Body.{nextChip, saidChip}
 use Rattle.chip.specs.Answer as chip
-use Rattle.chip.specs.declared.request.Order.{Order}
+use Rattle.request.specs.declared.chip.Order.{Order}
 use Rattle.rack.specs.declared.event.Said.{Said}
 use Rattle.rack.specs.declared.event.Said.the-variants as s
 use Rattle.rack.specs.declared.event.Report.{Report}

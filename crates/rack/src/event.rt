@@ -5,8 +5,8 @@ use crate::file::length_of;
 use crate::file::offset_of;
 use crate::tag::speaking;
 use crate::tag::step_tag;
-use ask::label::Request;
-use chip::request::Order;
+use request::label::Request;
+use request::chip::Order;
 ghost use mathlib.Core.Path.{_≡_};
 ghost use Prim.Native.Nat.{_+_, _≤_, _<_};
 ghost use lib.ListN.{length};
@@ -147,9 +147,9 @@ pub fn event(rack: &mut [u8], number: u8, frame: &[u8], draws: &[u8], answer: &m
             length: 0,
         };
     }
-    let request = ask::label::hear(number, frame);
-    let order = chip::request::hear(number, frame);
-    let heard = play(rack, request, ask::label::data_of(frame), order, draws);
+    let request = request::label::hear(number, frame);
+    let order = request::chip::hear(number, frame);
+    let heard = play(rack, request, request::label::data_of(frame), order, draws);
     if heard.answered != 1 {
         return Report {
             number: 0,

@@ -1,7 +1,7 @@
 // One tag of a rack, by its kind: its rules, its step and its answer's frame.
 use crate::event::Said;
-use ask::label::Request;
-use chip::request::Order;
+use request::label::Request;
+use request::chip::Order;
 use frame::verdict::Verdict;
 ghost use mathlib.Core.Path.{_≡_};
 ghost use mathlib.Core.Bool.{true};

@@ -20,16 +20,16 @@ use Rattle.frame.proofs.Bools.{and-both, or-right, eqb-same, if-true, if-false}
 use Rattle.frame.proofs.Frames.{right-framed}
 use Rattle.frame.proofs.Lists.{window, window-take, window-all}
 use Rattle.frame.proofs.Numbers.{bytes-take, bytes-drop, bytes-part}
-use Rattle.ask.specs.declared.label.Target.{Target}
-use Rattle.ask.specs.declared.label.Target.the-variants.{Everyone, Selected, One}
-use Rattle.ask.specs.declared.label.Family.{Family}
-use Rattle.ask.specs.declared.label.Family.the-variants.{Any, Only}
-use Rattle.ask.specs.declared.label.Call.the-variants as k
-use Rattle.ask.specs.declared.label.Request.{Request}
+use Rattle.request.specs.declared.label.Target.{Target}
+use Rattle.request.specs.declared.label.Target.the-variants.{Everyone, Selected, One}
+use Rattle.request.specs.declared.label.Family.{Family}
+use Rattle.request.specs.declared.label.Family.the-variants.{Any, Only}
+use Rattle.request.specs.declared.label.Call.the-variants as k
+use Rattle.request.specs.declared.label.Request.{Request}
 use Rattle.label.specs.declared.step.Answer.{Answer}
 use Rattle.label.specs.declared.step.Answer.the-variants as a
 use Rattle.label.specs.declared.step.Stepped.{Stepped}
-use Rattle.ask.specs.Label.{bare, decode, dataOf}
+use Rattle.request.specs.Label.{bare, decode, dataOf}
 use Rattle.label.specs.Step as steps
 use Rattle.label.specs.Body as label
 use Rattle.label.specs.Locks.{lockOn}

@@ -17,12 +17,12 @@ use Rattle.frame.proofs.Bools.{and-both, if-true, if-false}
 use Rattle.frame.proofs.Lists.{window, window-all}
 use Rattle.frame.proofs.Stores.{bytes-cons}
 use Rattle.frame.proofs.Numbers.{bytes-append, bytes-take}
-use Rattle.ask.specs.declared.label.Target.{Target}
-use Rattle.chip.specs.declared.request.Order.{Order}
+use Rattle.request.specs.declared.label.Target.{Target}
+use Rattle.request.specs.declared.chip.Order.{Order}
 use Rattle.chip.specs.declared.step.Answer.{Answer}
 use Rattle.chip.specs.declared.step.Answer.the-variants as a
 use Rattle.chip.specs.declared.step.Stepped.{Stepped}
-use Rattle.chip.specs.Request.{listed, decode}
+use Rattle.request.specs.Chip.{listed, decode}
 use Rattle.chip.specs.Step as step
 use Rattle.chip.specs.Body as chip
 use Rattle.chip.specs.Answer.{speaks, answerFrame}

@@ -16,24 +16,24 @@ use Rattle.frame.specs.Number.{num, part, Bytes}
 use Rattle.frame.specs.Ending.{endsIn, endsInSlot}
 use Rattle.frame.specs.declared.verdict.Verdict.{Verdict}
 use Rattle.frame.proofs.Bools.{and-both, eqb-same, if-either}
-use Rattle.ask.specs.declared.label.Target.{Target}
-use Rattle.ask.specs.declared.label.Target.the-variants.{Everyone, Selected, One}
-use Rattle.ask.specs.declared.label.Family.{Family}
-use Rattle.ask.specs.declared.label.Family.the-variants.{Only}
-use Rattle.ask.specs.declared.label.Order.{Order}
-use Rattle.ask.specs.declared.label.Call.the-variants as k
-use Rattle.ask.specs.declared.label.Request.{Request}
+use Rattle.request.specs.declared.label.Target.{Target}
+use Rattle.request.specs.declared.label.Target.the-variants.{Everyone, Selected, One}
+use Rattle.request.specs.declared.label.Family.{Family}
+use Rattle.request.specs.declared.label.Family.the-variants.{Only}
+use Rattle.request.specs.declared.label.Order.{Order}
+use Rattle.request.specs.declared.label.Call.the-variants as k
+use Rattle.request.specs.declared.label.Request.{Request}
 use Rattle.label.specs.declared.step.Label.{Label}
 use Rattle.label.specs.declared.step.Answer.{Answer}
 use Rattle.label.specs.declared.step.Answer.the-variants as a
 use Rattle.label.specs.declared.step.Stepped as steppedLabel
-use Rattle.ask.specs.Label.{bare, decode, dataOf}
+use Rattle.request.specs.Label.{bare, decode, dataOf}
 use Rattle.label.specs.Step as steps
 use Rattle.label.specs.Body as label
 use Rattle.label.specs.Answer.{speaks, answerFrame}
 use Rattle.label.specs.Facts.{LabelFine}
 use Rattle.label.specs.Slots.{on, clear, during}
-use Rattle.chip.specs.declared.request.Order as chipOrder
+use Rattle.request.specs.declared.chip.Order as chipOrder
 use Rattle.chip.specs.declared.step.Chip.{Chip}
 use Rattle.chip.specs.declared.step.Stepped as steppedChip
 use Rattle.chip.specs.Write.{locked}

@@ -13,16 +13,16 @@ use Rattle.frame.specs.Choose.{if_then_else_}
 use Rattle.frame.specs.Number.{num, bytesOf}
 use Rattle.frame.specs.CheckSum.{crcOf, framedWith, framed}
 use Rattle.frame.proofs.Frames.{length-framed, right-all}
-use Rattle.ask.specs.Table.{table, lookup}
-use Rattle.ask.specs.Label as labels
-use Rattle.ask.specs.declared.label.Target.{Target}
-use Rattle.ask.specs.declared.label.Target.the-variants.{Everyone, Selected, One}
-use Rattle.ask.specs.declared.label.Family.{Family}
-use Rattle.ask.specs.declared.label.Family.the-variants.{Any, Only}
-use Rattle.ask.specs.declared.label.Order.{Order}
-use Rattle.ask.specs.declared.label.Call.the-variants as k
-use Rattle.chip.specs.Request as chips
-use Rattle.chip.specs.declared.request.Order.the-variants as c
+use Rattle.request.specs.Table.{table, lookup}
+use Rattle.request.specs.Label as labels
+use Rattle.request.specs.declared.label.Target.{Target}
+use Rattle.request.specs.declared.label.Target.the-variants.{Everyone, Selected, One}
+use Rattle.request.specs.declared.label.Family.{Family}
+use Rattle.request.specs.declared.label.Family.the-variants.{Any, Only}
+use Rattle.request.specs.declared.label.Order.{Order}
+use Rattle.request.specs.declared.label.Call.the-variants as k
+use Rattle.request.specs.Chip as chips
+use Rattle.request.specs.declared.chip.Order.the-variants as c
 use Rattle.reader.specs.declared.command.Task.{Task}
 use Rattle.reader.specs.declared.command.Task.the-variants as t
 use Rattle.reader.specs.declared.command.ChipTask.{ChipTask}
@@ -31,7 +31,7 @@ use Rattle.reader.specs.declared.command.Command.the-variants.{Inventory
 use Rattle.reader.specs.Command.{chipFits, valid}
 use Rattle.reader.specs.Request.{mode, uidPart, code, params, content, encode, orderOf, uidMeant, labelMeant, chipMeant}
 use Rattle.reader.proofs.Valid.{LabelFacts, valid-inventory, valid-chip, valid-label, marker-small, read-listed, write-listed, no-option, one-named}
-use Rattle.ask.proofs.Back.{everyone-back, selected-back, everyone-option-back, selected-option-back, one-back, one-option-back, data-open-back, data-one-back, sixteen-back, one-slot-back, sixteen-afi-back, one-slot-afi-back}
+use Rattle.request.proofs.Back.{everyone-back, selected-back, everyone-option-back, selected-option-back, one-back, one-option-back, data-open-back, data-one-back, sixteen-back, one-slot-back, sixteen-afi-back, one-slot-afi-back}
 
 -- ---- labels
 

@@ -18,18 +18,18 @@ use Rattle.frame.specs.Ending.{bytesFor}
 use Rattle.frame.proofs.Frames.{length-framed}
 use Rattle.frame.proofs.Numbers.{length-bytes}
 use Rattle.frame.proofs.Puts.{laid-none, laid-number, laid-bytes, laid-seal, laid-done}
-use Rattle.ask.specs.declared.label.Target.{Target}
-use Rattle.ask.specs.declared.label.Target.the-variants.{Everyone, Selected, One}
-use Rattle.ask.specs.declared.label.Family.{Family}
-use Rattle.ask.specs.declared.label.Family.the-variants.{Any, Only}
+use Rattle.request.specs.declared.label.Target.{Target}
+use Rattle.request.specs.declared.label.Target.the-variants.{Everyone, Selected, One}
+use Rattle.request.specs.declared.label.Family.{Family}
+use Rattle.request.specs.declared.label.Family.the-variants.{Any, Only}
 use Rattle.reader.specs.declared.command.Task.{Task}
 use Rattle.reader.specs.declared.command.Task.the-variants as t
 use Rattle.reader.specs.declared.command.ChipTask.{ChipTask}
 use Rattle.reader.specs.declared.command.ChipTask.the-variants as p
 use Rattle.reader.specs.declared.command.Command.{Command}
 use Rattle.reader.specs.declared.command.Command.the-variants.{Inventory, Label, Chip, Other}
-use Rattle.reader.specs.declared.request.Plan.{Plan}
-use Rattle.reader.specs.declared.request.Written.{Written}
+use Rattle.reader.specs.declared.writer.Plan.{Plan}
+use Rattle.reader.specs.declared.writer.Written.{Written}
 use Rattle.reader.specs.Command.{longest, chipFits, valid}
 use Rattle.reader.specs.Request.{mode, uidPart, code, params, chipBytes, inventoryBytes, content, encode, refusalOf, writtenOf, outOf}
 use Rattle.reader.specs.Plan.{partsOf, uidCount, labelPlan, shortPlan, maskPlan, inventoryPlan, taskPlan, chipPlan, planOf, RangedFamily, RangedTask, RangedChip, Ranged, Small}

@@ -15,8 +15,8 @@ use Rattle.frame.specs.CheckSum.{crcOf, framedWith, framed}
 use Rattle.frame.specs.Ending.{endsIn}
 use Rattle.frame.proofs.Frames.{length-framed, content-framed, right-all}
 use Rattle.frame.proofs.Lists.{window, window-take, window-all}
-use Rattle.ask.specs.declared.label.Target.{Target}
-use Rattle.ask.specs.declared.label.Family.{Family}
+use Rattle.request.specs.declared.label.Target.{Target}
+use Rattle.request.specs.declared.label.Family.{Family}
 use Rattle.label.specs.declared.step.Answer.the-variants as a
 use Rattle.label.specs.Locks.{lockOn}
 use Rattle.label.specs.Body.{sizeOf, blockAt}

@@ -4,7 +4,7 @@ use mathlib.Core.Path.{_≡_, sym, _∙_}
 use mathlib.Core.List.{List}
 use Prim.Native.Nat.{ℕ}
 use Rattle.reader.specs.declared.command.Command.{Command}
-use Rattle.reader.specs.declared.request.Written.{Written}
+use Rattle.reader.specs.declared.writer.Written.{Written}
 use Rattle.reader.specs.declared.answer.Reading.{Reading}
 use Rattle.reader.specs.Request.{writtenOf, outOf}
 use Rattle.reader.specs.Answer.{readingOf}

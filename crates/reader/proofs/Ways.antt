@@ -19,9 +19,9 @@ use Rattle.frame.specs.Ending.{endsIn}
 use Rattle.frame.proofs.Bools.{bool-same, and-true}
 use Rattle.frame.proofs.Numbers.{num-lt}
 use Rattle.frame.proofs.Tests.{tests}
-use Rattle.ask.specs.Label.{most}
-use Rattle.ask.specs.declared.label.Target.{Target}
-use Rattle.chip.specs.Request.{listed}
+use Rattle.request.specs.Label.{most}
+use Rattle.request.specs.declared.label.Target.{Target}
+use Rattle.request.specs.Chip.{listed}
 use Rattle.reader.specs.declared.command.Task.{Task}
 use Rattle.reader.specs.declared.command.Task.the-variants as t
 use Rattle.reader.specs.declared.command.ChipTask.{ChipTask}

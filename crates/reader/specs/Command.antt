@@ -2,10 +2,10 @@
 use mathlib.Core.Bool.{Bool, true, false, not, _&&_, _||_}
 use Prim.Native.Nat.{ℕ, _^_}
 use lib.Dec.{eqb, ltb, leb}
-use Rattle.ask.specs.Label.{most}
-use Rattle.ask.specs.declared.label.Target.{Target}
-use Rattle.ask.specs.declared.label.Target.the-variants.{Everyone, Selected, One}
-use Rattle.chip.specs.Request.{listed}
+use Rattle.request.specs.Label.{most}
+use Rattle.request.specs.declared.label.Target.{Target}
+use Rattle.request.specs.declared.label.Target.the-variants.{Everyone, Selected, One}
+use Rattle.request.specs.Chip.{listed}
 use Rattle.reader.specs.declared.command.Task.{Task}
 use Rattle.reader.specs.declared.command.Task.the-variants as t
 use Rattle.reader.specs.declared.command.ChipTask.{ChipTask}

@@ -7,17 +7,17 @@ use lib.ListN.{take}
 use Rattle.frame.specs.Choose.{if_then_else_}
 use Rattle.frame.specs.Number.{bytesOf}
 use Rattle.frame.specs.Ending.{bytesFor}
-use Rattle.ask.specs.declared.label.Target.{Target}
-use Rattle.ask.specs.declared.label.Target.the-variants.{Everyone, Selected, One}
-use Rattle.ask.specs.declared.label.Family.{Family}
-use Rattle.ask.specs.declared.label.Family.the-variants.{Any, Only}
+use Rattle.request.specs.declared.label.Target.{Target}
+use Rattle.request.specs.declared.label.Target.the-variants.{Everyone, Selected, One}
+use Rattle.request.specs.declared.label.Family.{Family}
+use Rattle.request.specs.declared.label.Family.the-variants.{Any, Only}
 use Rattle.reader.specs.declared.command.Task.{Task}
 use Rattle.reader.specs.declared.command.Task.the-variants as t
 use Rattle.reader.specs.declared.command.ChipTask.{ChipTask}
 use Rattle.reader.specs.declared.command.ChipTask.the-variants as p
 use Rattle.reader.specs.declared.command.Command.{Command}
 use Rattle.reader.specs.declared.command.Command.the-variants.{Inventory, Label, Chip, Other}
-use Rattle.reader.specs.declared.request.Plan.{Plan}
+use Rattle.reader.specs.declared.writer.Plan.{Plan}
 use Rattle.reader.specs.declared.answer.Meaning.the-variants as m
 use Rattle.reader.specs.declared.answer.Reading.{Reading}
 use Rattle.reader.specs.Request.{mode}

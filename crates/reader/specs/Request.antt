@@ -8,23 +8,23 @@ use Rattle.frame.specs.Choose.{if_then_else_}
 use Rattle.frame.specs.Number.{num, bytesOf}
 use Rattle.frame.specs.CheckSum.{framed}
 use Rattle.frame.specs.Ending.{bytesFor}
-use Rattle.ask.specs.declared.label.Target.{Target}
-use Rattle.ask.specs.declared.label.Target.the-variants.{Everyone, Selected, One}
-use Rattle.ask.specs.declared.label.Family.{Family}
-use Rattle.ask.specs.declared.label.Family.the-variants.{Any, Only}
-use Rattle.ask.specs.declared.label.Order.{Order}
-use Rattle.ask.specs.declared.label.Order.the-variants as o
-use Rattle.ask.specs.declared.label.Call.the-variants as k
-use Rattle.ask.specs.declared.label.Request as asked
-use Rattle.chip.specs.declared.request.Order as chip
-use Rattle.chip.specs.declared.request.Order.the-variants as c
+use Rattle.request.specs.declared.label.Target.{Target}
+use Rattle.request.specs.declared.label.Target.the-variants.{Everyone, Selected, One}
+use Rattle.request.specs.declared.label.Family.{Family}
+use Rattle.request.specs.declared.label.Family.the-variants.{Any, Only}
+use Rattle.request.specs.declared.label.Order.{Order}
+use Rattle.request.specs.declared.label.Order.the-variants as o
+use Rattle.request.specs.declared.label.Call.the-variants as k
+use Rattle.request.specs.declared.label.Request as asked
+use Rattle.request.specs.declared.chip.Order as chip
+use Rattle.request.specs.declared.chip.Order.the-variants as c
 use Rattle.reader.specs.declared.command.Task.{Task}
 use Rattle.reader.specs.declared.command.Task.the-variants as t
 use Rattle.reader.specs.declared.command.ChipTask.{ChipTask}
 use Rattle.reader.specs.declared.command.ChipTask.the-variants as p
 use Rattle.reader.specs.declared.command.Command.{Command}
 use Rattle.reader.specs.declared.command.Command.the-variants.{Inventory, Label, Chip, Other}
-use Rattle.reader.specs.declared.request.Written.{Written}
+use Rattle.reader.specs.declared.writer.Written.{Written}
 use Rattle.reader.specs.Command.{valid}
 
 -- ---- the bytes. Flag bit 0 clear, bit 1 set

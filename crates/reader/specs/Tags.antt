@@ -7,11 +7,11 @@ use Prim.Native.Nat.{ℕ, zero, suc, _<_}
 use lib.ListN.{length}
 use Rattle.frame.specs.Number.{Bytes}
 use Rattle.frame.specs.Judge.{fine}
-use Rattle.ask.specs.Label as labels
+use Rattle.request.specs.Label as labels
 use Rattle.label.specs.Body as label
 use Rattle.label.specs.Answer as labelAnswer
-use Rattle.ask.specs.declared.label.Call.the-variants as k
-use Rattle.chip.specs.Request as chips
+use Rattle.request.specs.declared.label.Call.the-variants as k
+use Rattle.request.specs.Chip as chips
 use Rattle.chip.specs.Body as chip
 use Rattle.chip.specs.Answer as chipAnswer
 

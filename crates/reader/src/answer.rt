@@ -3,7 +3,7 @@ use crate::command::ChipTask;
 use crate::command::Command;
 use crate::command::Task;
 use crate::command::is_valid;
-use ask::label::Target;
+use request::label::Target;
 use frame::check_sum::is_right;
 use frame::number::byte_at;
 use frame::number::number_of;

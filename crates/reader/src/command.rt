@@ -1,13 +1,13 @@
 // What a reader can send, and whether there is a request with these fields.
-use ask::label::Family;
-use ask::label::Target;
-use chip::request::is_listed;
+use request::label::Family;
+use request::label::Target;
+use request::chip::is_listed;
 use frame::uid::low_bits;
 ghost use mathlib.Core.Path.{_≡_};
 ghost use mathlib.Core.Bool.{not, _&&_};
 ghost use lib.Dec.{eqb, leb};
-ghost use Rattle.ask.specs.Label.{most};
-ghost use Rattle.chip.specs.Request.{listed};
+ghost use Rattle.request.specs.Label.{most};
+ghost use Rattle.request.specs.Chip.{listed};
 ghost use Rattle.reader.specs.Command.{everyone, one, reads, names, longest, labelFits, chipFits, inventoryFits, valid};
 
 // What a label is asked beside an Inventory. A write's bytes stand beside the command.

@@ -7,14 +7,14 @@ use Prim.Native.Nat.{ℕ, _≤_, _<_}
 use borrow.Author.Tests.{lt-ltb, le-ltb, eq-eqb, ne-eqb}
 use Rattle.frame.specs.Number.{num}
 use Rattle.frame.proofs.Tests.{tests}
-use Rattle.ask.specs.declared.label.Family.{Family}
-use Rattle.ask.specs.declared.label.Target.{Target}
-use Rattle.ask.specs.declared.label.Target.the-variants.{Everyone, Selected, One}
+use Rattle.request.specs.declared.label.Family.{Family}
+use Rattle.request.specs.declared.label.Target.{Target}
+use Rattle.request.specs.declared.label.Target.the-variants.{Everyone, Selected, One}
 use Rattle.reader.specs.declared.command.Command.{Command}
 use Rattle.reader.specs.declared.command.Command.the-variants.{Inventory, Other}
 use Rattle.reader.specs.declared.answer.Meaning.{Meaning}
 use Rattle.reader.specs.declared.answer.Reading.{Reading}
-use Rattle.reader.specs.declared.request.Written.{Written}
+use Rattle.reader.specs.declared.writer.Written.{Written}
 use Rattle.reader.specs.Request.{writtenOf, outOf}
 use Rattle.reader.specs.Answer.{readingOf}
 use Rattle.station.specs.declared.fields.Fields.{Fields}

@@ -4,10 +4,10 @@ use mathlib.Core.Bool.{Bool, true, false}
 use Prim.Native.Nat.{ℕ}
 use lib.Dec.{eqb, ltb}
 use Rattle.frame.specs.Choose.{if_then_else_}
-use Rattle.ask.specs.declared.label.Family.{Family}
-use Rattle.ask.specs.declared.label.Family.the-variants.{Any, Only}
-use Rattle.ask.specs.declared.label.Target.{Target}
-use Rattle.ask.specs.declared.label.Target.the-variants.{Everyone, Selected, One}
+use Rattle.request.specs.declared.label.Family.{Family}
+use Rattle.request.specs.declared.label.Family.the-variants.{Any, Only}
+use Rattle.request.specs.declared.label.Target.{Target}
+use Rattle.request.specs.declared.label.Target.the-variants.{Everyone, Selected, One}
 use Rattle.reader.specs.declared.command.Task.the-variants as t
 use Rattle.reader.specs.declared.command.ChipTask.the-variants as p
 use Rattle.reader.specs.declared.command.Command.{Command}

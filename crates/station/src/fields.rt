@@ -1,6 +1,6 @@
 // A command put together from the numbers that C hands over.
-use ask::label::Family;
-use ask::label::Target;
+use request::label::Family;
+use request::label::Target;
 use reader::command::ChipTask;
 use reader::command::Command;
 use reader::command::Task;

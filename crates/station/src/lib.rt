@@ -10,7 +10,7 @@ use crate::told::tell;
 use frame::uid::uid_number;
 use inventory::walk::Walked;
 use rack::event::Report;
-use reader::request::Written;
+use reader::writer::Written;
 ghost use mathlib.Core.Path.{_≡_};
 ghost use Rattle.frame.specs.CheckSum.{crcOf};
 ghost use Rattle.rack.specs.Event.{eventOf};
@@ -66,7 +66,7 @@ pub extern "C" fn sackbutflare_write_request(
     ensures { λ _. ⌜ now (out .exit) ≡ outOf (commandOf f) (now (uid .entry)) (now («data» .entry)) (now (out .entry)) ⌝ }
 {
     let c = command_of(f);
-    reader::request::write_request(c, *uid, data, out)
+    reader::writer::write_request(c, *uid, data, out)
 }
 
 // Reads the answer to a command that was sent with n bytes of data.

@@ -1,5 +1,5 @@
 // Events and walks as calls: their numbers, and whether a lent buffer was written to.
-use ask::label::Family;
+use request::label::Family;
 use frame::number::byte_at;
 use inventory::walk::Walked;
 use inventory::walk::walk;

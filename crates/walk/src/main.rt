@@ -1,5 +1,5 @@
 // walk: reads a rack from standard input and walks it with no AFI. Prints the rounds, then the UIDs, high byte first; or what refuses it.
-use ask::label::Family;
+use request::label::Family;
 use inventory::walk::walk;
 use script::replies::print_uids;
 use text::file::load_input;

@@ -1,0 +1,18 @@
+-- The plan from what the calls ensure.
+-- Assumes nothing.
+use native.Mathlib.Omega.{arith}
+use borrow.Author.Needs.{needs}
+use Rattle.reader.proofs.Plans.{family-plan}
+use Rattle.reader.proofs.writer.family_plan.Statement.{statement}
+use Rattle.reader.proofs.writer.family_plan.Tie as tie
+
+pub family-plan-spec : {M : Type 1} → statement M
+family-plan-spec =
+    tie.close
+    (tie.spec
+    (λ c κs. search needs)
+    (λ c κs. search needs)
+    (λ c. search needs)
+    (λ c. search needs)
+    (λ c κs. search needs)
+    (λ c. family-plan _ (c .before .before .before .args .sixteen) _ _ _ _ _ (c .before .before .wide .ensures) (c .before .wide2 .ensures) (c .mask-plan .ensures) (omega arith)))
