@@ -20,9 +20,9 @@ use Rattle.request.specs.declared.label.Call.the-variants.{Inventory, EndOfFram
 use Rattle.label.specs.declared.step.Answer.the-variants.{Silent, Found}
 use Rattle.label.proofs.Fine.{fine-rules}
 use Rattle.label.proofs.Slots.{first, step, last, said-first, said-step, during-fine, during-bytes, during-uid, during-length, clear-fine, clear-bytes, clear-uid, clear-length, clear-clear, on-clear}
-use Rattle.request.specs.declared.chip.Order.the-variants.{Ignored}
 use Rattle.rack.specs.File.{bodyRules}
-use Rattle.rack.specs.Event.{Signal, nextBody, saidBy, speaks, frameOf, answerBody}
+use Rattle.rack.specs.Event.{Event, carrying, nextBody, saidBy, speaks, frameOf, answerBody}
+use Rattle.inventory.proofs.Sent.{signal}
 use Rattle.inventory.specs.Walk.{uidAt, clearBody}
 use Rattle.inventory.proofs.Says.{ignored, ignored-said}
 
@@ -34,8 +34,8 @@ pub record TagOk (k : ℕ) (b : List ℕ) : Type 0 where
   pub rules : bodyRules k b .number ≡ 0
 
 -- an event that no chip heeds
-abbrev pub signalWith : List ℕ → Call → Signal
-signalWith bytes call = record { request = bare call; bytes = bytes; order = Ignored }
+abbrev pub eventWith : List ℕ → Call → Event
+eventWith bytes call = carrying (signal call) bytes
 
 -- its body in slot s
 unfoldable pub duringBody : Family → ℕ → ℕ → ℕ → ℕ → List ℕ → List ℕ
@@ -55,7 +55,7 @@ said true b = refl
 said false b = refl
 
 module _ {k : ℕ} {b : List ℕ} (ok : TagOk k b) (family : Family) (m e : ℕ) where
-  pub body-first : (bytes : List ℕ) (d : ℕ) → nextBody k (signalWith bytes (Inventory family true m e)) d b ≡ duringBody family m e 0 k b
+  pub body-first : (bytes : List ℕ) (d : ℕ) → nextBody k (eventWith bytes (Inventory family true m e)) d b ≡ duringBody family m e 0 k b
   unfolding nextBody duringBody
   body-first bytes d =
       ⊎-elim
@@ -63,7 +63,7 @@ module _ {k : ℕ} {b : List ℕ} (ok : TagOk k b) (family : Family) (m e : ℕ)
       (λ (q : k ≡ 2). rw q (ignored d b))
       (ok .kind)
 
-  pub body-step : (bytes : List ℕ) (d s : ℕ) → m ≤ 60 → e < 2 ^ m → s < 15 → nextBody k (signalWith bytes EndOfFrame) d (duringBody family m e s k b) ≡ duringBody family m e (suc s) k b
+  pub body-step : (bytes : List ℕ) (d s : ℕ) → m ≤ 60 → e < 2 ^ m → s < 15 → nextBody k (eventWith bytes EndOfFrame) d (duringBody family m e s k b) ≡ duringBody family m e (suc s) k b
   unfolding nextBody duringBody
   body-step bytes d s short low h =
       ⊎-elim
@@ -71,7 +71,7 @@ module _ {k : ℕ} {b : List ℕ} (ok : TagOk k b) (family : Family) (m e : ℕ)
       (λ (q : k ≡ 2). rw q (ignored d b))
       (ok .kind)
 
-  pub body-last : (bytes : List ℕ) (d : ℕ) → m ≤ 60 → e < 2 ^ m → nextBody k (signalWith bytes EndOfFrame) d (duringBody family m e 15 k b) ≡ clearBody k b
+  pub body-last : (bytes : List ℕ) (d : ℕ) → m ≤ 60 → e < 2 ^ m → nextBody k (eventWith bytes EndOfFrame) d (duringBody family m e 15 k b) ≡ clearBody k b
   unfolding nextBody duringBody clearBody
   body-last bytes d short low =
       ⊎-elim
@@ -79,7 +79,7 @@ module _ {k : ℕ} {b : List ℕ} (ok : TagOk k b) (family : Family) (m e : ℕ)
       (λ (q : k ≡ 2). rw q (ignored d b))
       (ok .kind)
 
-  pub answer-first : (bytes : List ℕ) (d : ℕ) → answerBody k (signalWith bytes (Inventory family true m e)) d b ≡ spoken (called family m e 0 k b) b
+  pub answer-first : (bytes : List ℕ) (d : ℕ) → answerBody k (eventWith bytes (Inventory family true m e)) d b ≡ spoken (called family m e 0 k b) b
   unfolding answerBody saidBy speaks frameOf
   answer-first bytes d =
       ⊎-elim
@@ -88,7 +88,7 @@ module _ {k : ℕ} {b : List ℕ} (ok : TagOk k b) (family : Family) (m e : ℕ)
       (ok .kind)
 
   pub answer-step : (bytes : List ℕ) (d s : ℕ) → m ≤ 60 → e < 2 ^ m → s < 15
-      → answerBody k (signalWith bytes EndOfFrame) d (duringBody family m e s k b) ≡ spoken (called family m e (suc s) k b) (duringBody family m e s k b)
+      → answerBody k (eventWith bytes EndOfFrame) d (duringBody family m e s k b) ≡ spoken (called family m e (suc s) k b) (duringBody family m e s k b)
   unfolding answerBody saidBy speaks frameOf duringBody
   answer-step bytes d s short low h =
       ⊎-elim

@@ -23,9 +23,9 @@ use Rattle.request.specs.declared.label.Call.the-variants.{Inventory, EndOfFram
 use Rattle.request.specs.Chip as chips
 use Rattle.rack.specs.File.{countOf, entryAt, kindAt, lengthAt, startOf, bodyAt, rebuilt, lengthFits, entryVerdict, bodyRules}
 use Rattle.rack.specs.Facts.{RackFine}
-use Rattle.rack.specs.Event.{Signal, Outcome, signalOf, next, answer, nextRack, answers, played, refusalOf, eventOf}
+use Rattle.rack.specs.Event.{Event, Outcome, aired, next, answer, nextRack, answers, played, refusalOf, eventOf}
 use Rattle.inventory.specs.Walk.{request, sent}
-use Rattle.inventory.proofs.Sent.{signal, draws}
+use Rattle.inventory.proofs.Sent.{event, draws}
 use Rattle.label.proofs.Fine.{rules-fine}
 use Rattle.request.proofs.Back.{sixteen-back, sixteen-afi-back}
 use Rattle.rack.proofs.Places.{gather-ext}
@@ -33,7 +33,7 @@ use Rattle.rack.proofs.Rebuilt.{rebuilt-ext}
 use Rattle.rack.proofs.Verdicts.{fine-rack}
 use Rattle.rack.proofs.Tags.{fits-chip, fits-label}
 use Rattle.rack.proofs.Closed as closed
-use Rattle.inventory.proofs.Bodies.{TagOk, signalWith, duringBody, called, spoken, body-first, answer-first}
+use Rattle.inventory.proofs.Bodies.{TagOk, eventWith, duringBody, called, spoken, body-first, answer-first}
 
 -- a rack of bytes that keeps its rules
 pub record Fine (r : List ℕ) : Type 0 where
@@ -87,13 +87,13 @@ accepted : (r : List ℕ) → RackFine r → (e : ℕ) → (leb 1 e && leb e 5) 
 unfolding refusalOf
 accepted r ok e h = rw (fine-rack r ok, length-replicate {A = ℕ} (countOf r) 0, eq-eqb (countOf r) (countOf r) refl, h) refl
 
-plays : (r : List ℕ) → RackFine r → (e : ℕ) → (leb 1 e && leb e 5) ≡ true → (f : List ℕ) → sent r e f ≡ played r (signalOf e f) (draws r) (replicate 64 0)
+plays : (r : List ℕ) → RackFine r → (e : ℕ) → (leb 1 e && leb e 5) ≡ true → (f : List ℕ) → sent r e f ≡ played r (aired e f) (draws r) (replicate 64 0)
 unfolding sent eventOf
 plays r ok e h f = rw (accepted r ok e h) refl
 
 -- a call of the walk played
 abbrev pub told : List ℕ → Call → Outcome
-told r call = played r (signal call) (draws r) (replicate 64 0)
+told r call = played r (event call) (draws r) (replicate 64 0)
 
 pub ends : (r : List ℕ) → RackFine r → sent r 4 [] ≡ told r EndOfFrame
 unfolding labels.heard labels.dataOf chips.heard
@@ -107,21 +107,21 @@ reads Any m e short low = sixteen-back m e low short
 reads (Only afi) m e short low = sixteen-afi-back m e low afi short
 
 signal-reads : (family : Family) (m e : ℕ) → m ≤ 60 → e < 2 ^ m
-    → signalOf 3 (request family m e) ≡ signalWith (labels.dataOf (request family m e)) (Inventory family true m e)
+    → aired 3 (request family m e) ≡ eventWith (labels.dataOf (request family m e)) (Inventory family true m e)
 unfolding labels.heard chips.heard
 signal-reads family m e short low = rw (reads family m e short low) refl
 
-played-same : (r : List ℕ) (x y : Signal) (ds out : List ℕ) → answers r x ds ≡ answers r y ds → nextRack r x ds ≡ nextRack r y ds
+played-same : (r : List ℕ) (x y : Event) (ds out : List ℕ) → answers r x ds ≡ answers r y ds → nextRack r x ds ≡ nextRack r y ds
     → played r x ds out ≡ played r y ds out
 played-same r x y ds out p q = rw (p, q) refl
 
 module _ (r : List ℕ) (ok : Fine r) (family : Family) (m e : ℕ) where
-  pub next-first : (bytes ds : List ℕ) → nextRack r (signalWith bytes (Inventory family true m e)) ds ≡ rebuilt r (λ i. duringBody family m e 0 (kindAt r i) (bodyAt r i))
+  pub next-first : (bytes ds : List ℕ) → nextRack r (eventWith bytes (Inventory family true m e)) ds ≡ rebuilt r (λ i. duringBody family m e 0 (kindAt r i) (bodyAt r i))
   unfolding nextRack next
   next-first bytes ds = rebuilt-ext r _ _ (λ i h. body-first (tag r ok i h) family m e bytes (getD ds i 0))
 
   pub answers-first : (bytes ds : List ℕ)
-      → answers r (signalWith bytes (Inventory family true m e)) ds ≡ gather (countOf r) (λ i. spoken (called family m e 0 (kindAt r i) (bodyAt r i)) (bodyAt r i))
+      → answers r (eventWith bytes (Inventory family true m e)) ds ≡ gather (countOf r) (λ i. spoken (called family m e 0 (kindAt r i) (bodyAt r i)) (bodyAt r i))
   unfolding answers answer
   answers-first bytes ds = gather-ext (countOf r) _ _ (λ i h. answer-first (tag r ok i h) family m e bytes (getD ds i 0))
 
@@ -129,7 +129,7 @@ module _ (r : List ℕ) (ok : Fine r) (family : Family) (m e : ℕ) where
   opens short low =
       let bs = labels.dataOf (request family m e) in
       plays r (ok .rack) 3 refl (request family m e)
-      ∙ ap (λ (x : Signal). played r x (draws r) (replicate 64 0)) (signal-reads family m e short low)
-      ∙ played-same r (signalWith bs (Inventory family true m e)) (signal (Inventory family true m e)) (draws r) (replicate 64 0)
+      ∙ ap (λ (x : Event). played r x (draws r) (replicate 64 0)) (signal-reads family m e short low)
+      ∙ played-same r (eventWith bs (Inventory family true m e)) (event (Inventory family true m e)) (draws r) (replicate 64 0)
       (answers-first bs (draws r) ∙ sym (answers-first [] (draws r)))
       (next-first bs (draws r) ∙ sym (next-first [] (draws r)))

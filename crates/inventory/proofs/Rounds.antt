@@ -15,7 +15,7 @@ use Rattle.rack.specs.File.{countOf, kindAt, lengthAt, bodyAt, rebuilt}
 use Rattle.rack.specs.Facts.{RackFine}
 use Rattle.rack.specs.Event.{Outcome, opened}
 use Rattle.inventory.specs.Walk.{slotOutcome, hits, cleared}
-use Rattle.inventory.proofs.Sent.{signal, draws, after, heard}
+use Rattle.inventory.proofs.Sent.{event, draws, after, heard}
 use Rattle.rack.proofs.Places.{gather-ext}
 use Rattle.rack.proofs.Rebuilt.{body-long, rebuilt-ext}
 use Rattle.rack.proofs.Closed.{next-rebuilt, answers-rebuilt}
@@ -56,19 +56,19 @@ module _ (r : List ℕ) (fine : Fine r) (family : Family) (m e : ℕ) (short : m
   step-rack : (s : ℕ) → s < 15 → after (rebuilt r (bodies s)) EndOfFrame ≡ rebuilt r (bodies (suc s))
   unfolding after
   step-rack s h =
-      next-rebuilt r (fine .rack .whole) (bodies s) (sized s) (signal EndOfFrame) (draws (rebuilt r (bodies s)))
+      next-rebuilt r (fine .rack .whole) (bodies s) (sized s) (event EndOfFrame) (draws (rebuilt r (bodies s)))
       ∙ rebuilt-ext r _ _ (λ i b. body-step (tag r fine i b) family m e [] (getD (draws (rebuilt r (bodies s))) i 0) s short low h)
 
   last-rack : after (rebuilt r (bodies 15)) EndOfFrame ≡ cleared r
   unfolding after cleared
   last-rack =
-      next-rebuilt r (fine .rack .whole) (bodies 15) (sized 15) (signal EndOfFrame) (draws (rebuilt r (bodies 15)))
+      next-rebuilt r (fine .rack .whole) (bodies 15) (sized 15) (event EndOfFrame) (draws (rebuilt r (bodies 15)))
       ∙ rebuilt-ext r _ _ (λ i b. body-last (tag r fine i b) family m e [] (getD (draws (rebuilt r (bodies 15))) i 0) short low)
 
   step-heard : (s : ℕ) → s < 15 → heard (rebuilt r (bodies s)) EndOfFrame ≡ gather (countOf r) (λ i. spoken (called family m e (suc s) (kindAt r i) (bodyAt r i)) (bodies s i))
   unfolding heard
   step-heard s h =
-      answers-rebuilt r (fine .rack .whole) (bodies s) (sized s) (signal EndOfFrame) (draws (rebuilt r (bodies s)))
+      answers-rebuilt r (fine .rack .whole) (bodies s) (sized s) (event EndOfFrame) (draws (rebuilt r (bodies s)))
       ∙ gather-ext (countOf r) _ _ (λ i b. answer-step (tag r fine i b) family m e [] (getD (draws (rebuilt r (bodies s))) i 0) s short low h)
 
   first-rack : after r (Inventory family true m e) ≡ rebuilt r (bodies 0)

@@ -4,22 +4,26 @@ use Prim.Native.Nat.{ℕ}
 use lib.ListN.{replicate}
 use Rattle.frame.specs.Number.{part}
 use Rattle.request.specs.Label.{bare}
+use Rattle.request.specs.declared.signal.Signal.{Signal}
 use Rattle.request.specs.declared.label.Call.{Call}
 use Rattle.request.specs.declared.chip.Order.the-variants as o
 use Rattle.rack.specs.File.{countOf}
-use Rattle.rack.specs.Event.{Signal, nextRack, answers}
+use Rattle.rack.specs.Event.{Event, carrying, nextRack, answers}
 
 abbrev pub signal : Call → Signal
-signal call = record { request = bare call; bytes = []; order = o.Ignored }
+signal call = record { label = bare call; chip = o.Ignored }
+
+abbrev pub event : Call → Event
+event call = carrying (signal call) []
 
 abbrev pub draws : List ℕ → List ℕ
 draws r = replicate (countOf r) 0
 
 unfoldable pub after : List ℕ → Call → List ℕ
-after r call = nextRack r (signal call) (draws r)
+after r call = nextRack r (event call) (draws r)
 
 unfoldable pub heard : List ℕ → Call → List (List ℕ)
-heard r call = answers r (signal call) (draws r)
+heard r call = answers r (event call) (draws r)
 
 -- the UID in the only answer: its bytes 2 to 9
 abbrev pub uidAlone : List (List ℕ) → List ℕ

@@ -14,7 +14,7 @@ use Rattle.frame.specs.declared.verdict.Verdict.{Verdict}
 use Rattle.frame.proofs.Numbers.{bytes-part}
 use Rattle.rack.specs.File.{countOf, entryAt, kindAt, lengthAt, offsetAt, startOf, bodyAt, contents, rebuilt, headVerdict, entryVerdict, bodyRules, verdictOf}
 use Rattle.rack.specs.Facts.{BodyFine, RackFine, TagFine}
-use Rattle.rack.specs.Event.{Signal, nextBody, next, nextRack, answer, answers, answerBody}
+use Rattle.rack.specs.Event.{Event, nextBody, next, nextRack, answer, answers, answerBody}
 use Rattle.rack.proofs.Places.{gather-ext, same-read, count-same, length-same, offset-same, start-same}
 use Rattle.rack.proofs.Rebuilt.{body-inside, rebuilt-length, rebuilt-front, rebuilt-count, rebuilt-kind, rebuilt-lengthAt, rebuilt-offset, rebuilt-start, rebuilt-contents, rebuilt-whole, rebuilt-body, rebuilt-bytes, rebuilt-ext, rebuilt-again}
 use Rattle.rack.proofs.Verdicts.{head-fine, entry-fine, body-fine, body-is, moved-fine, rack-fine, fine-rack}
@@ -72,7 +72,7 @@ module _ (r : List ℕ) (g : ℕ → List ℕ) (ok : RackFine r) (sized : (i : �
       }
 
 -- ---- the next rack
-module _ (r : List ℕ) (e : Signal) (ds : List ℕ) (ok : RackFine r) where
+module _ (r : List ℕ) (e : Event) (ds : List ℕ) (ok : RackFine r) where
   sized : (i : ℕ) → i < countOf r → length (next r e ds i) ≡ lengthAt r i
   sized = next-sized r e ds ok
 
@@ -118,12 +118,12 @@ module _ (r : List ℕ) (e : Signal) (ds : List ℕ) (ok : RackFine r) where
         (λ i h. step-keeps (kindAt r i) e (getD ds i 0) (bodyAt r i) (bytes-part (startOf r i) (lengthAt r i) r bytes) (drawn i) s (tag-fine r ok i h))
 
 -- the same of verdicts
-pub next-verdict : (r : List ℕ) (e : Signal) (ds : List ℕ) → verdictOf r .number ≡ 0 → Bytes r → Bytes ds → SignalSound e
+pub next-verdict : (r : List ℕ) (e : Event) (ds : List ℕ) → verdictOf r .number ≡ 0 → Bytes r → Bytes ds → SignalSound e
     → verdictOf (nextRack r e ds) ≡ fine
 next-verdict r e ds h b d s = fine-rack (nextRack r e ds) (next-fine r e ds (rack-fine r h) b d s)
 
 -- ---- an event on a rack with other bodies is a law of bodies alone
-module _ (r : List ℕ) (whole : startOf r (countOf r) ≡ length r) (g : ℕ → List ℕ) (sized : (i : ℕ) → i < countOf r → length (g i) ≡ lengthAt r i) (e : Signal) (ds : List ℕ) where
+module _ (r : List ℕ) (whole : startOf r (countOf r) ≡ length r) (g : ℕ → List ℕ) (sized : (i : ℕ) → i < countOf r → length (g i) ≡ lengthAt r i) (e : Event) (ds : List ℕ) where
   pub next-rebuilt : nextRack (rebuilt r g) e ds ≡ rebuilt r (λ i. nextBody (kindAt r i) e (getD ds i 0) (g i))
   unfolding nextRack next
   next-rebuilt =
@@ -148,11 +148,11 @@ splice-outside at len ys xs l h =
     )
 
 -- the next rack said as a fold: tag after tag, its part of the rack is replaced by its step
-pub spliced : List ℕ → Signal → List ℕ → ℕ → List ℕ
+pub spliced : List ℕ → Event → List ℕ → ℕ → List ℕ
 spliced r e ds zero = r
 spliced r e ds (suc i) = splice (startOf r i) (lengthAt r i) (next r e ds i) (spliced r e ds i)
 
-module _ (r : List ℕ) (e : Signal) (ds : List ℕ) (ok : RackFine r) where
+module _ (r : List ℕ) (e : Event) (ds : List ℕ) (ok : RackFine r) where
   spliced-is : (i : ℕ) → i ≤ countOf r → spliced r e ds i ≡ passed r e ds i
   unfolding spliced
   spliced-is zero h = sym (passed-none r e ds ok)

@@ -15,15 +15,14 @@ use Rattle.frame.specs.declared.verdict.Verdict.{Verdict}
 use Rattle.frame.proofs.Bools.{and-both}
 use Rattle.frame.proofs.Puts.{sets-front}
 use Rattle.frame.proofs.Verdicts.{not-none}
-use Rattle.request.specs.Label as labels
-use Rattle.request.specs.declared.label.Request.{Request}
-use Rattle.request.specs.Chip as chips
-use Rattle.request.specs.declared.chip.Order.{Order}
+use Rattle.request.specs.Label.{dataOf}
+use Rattle.request.specs.Signal.{signalOf}
+use Rattle.request.specs.declared.signal.Signal.{Signal}
 use Rattle.rack.specs.declared.event.Said.{Said}
 use Rattle.rack.specs.declared.event.Report.{Report}
 use Rattle.rack.specs.File.{countOf, kindAt, lengthAt, offsetAt, startOf, bodyAt, verdictOf}
 use Rattle.rack.specs.Facts.{RackFine, Tellable, bodyOf}
-use Rattle.rack.specs.Event.{Signal, signalOf, nextBody, frameOf, answer, answers, nextRack, opened, lengthAlone, Outcome, played, refusalOf, eventOf, Alone, HeardOf}
+use Rattle.rack.specs.Event.{Event, carrying, aired, nextBody, frameOf, answer, answers, nextRack, opened, lengthAlone, Outcome, played, refusalOf, eventOf, Alone, HeardOf}
 use Rattle.rack.proofs.Verdicts.{rack-fine}
 use Rattle.rack.proofs.Tags.{frame-same, frame-short, sayable-next}
 use Rattle.rack.proofs.Pass.{tag-fine}
@@ -94,11 +93,9 @@ playable r e draws room h =
 
 -- ---- the outcome
 
--- the signal, as the code decodes it
-pub signal-is : (e : ℕ) (f : List ℕ) (request : Request) (bytes : List ℕ) (order : Order)
-    → request ≡ labels.heard e f → bytes ≡ labels.dataOf f → order ≡ chips.heard e f
-    → record { request = request; bytes = bytes; order = order } ≡ signalOf e f
-signal-is e f request bytes order p q o = rw (p, q, o)
+-- the event, as the code decodes it
+pub event-is : (e : ℕ) (f : List ℕ) (signal : Signal) (bytes : List ℕ) → signal ≡ signalOf e f → bytes ≡ dataOf f → carrying signal bytes ≡ aired e f
+event-is e f signal bytes p q = rw (p, q)
 
 pub not-alone : (l : List (List ℕ)) (out : List ℕ) → (length l ≡ 1 → ⊥) → (0 ≡ lengthAlone l) × (out ≡ opened l out)
 not-alone [] out z = (refl, refl)
@@ -106,7 +103,7 @@ not-alone (f ∷ []) out z = absurd (z refl)
 not-alone (f ∷ g ∷ fs) out z = (refl, refl)
 
 -- ---- one answered: tag w, which said `said`; xs is the next rack
-module _ (r : List ℕ) (s : Signal) (ds : List ℕ) (ok : RackFine r) (w : ℕ) (said : Said) (xs : List ℕ) (alone : Alone r s ds (countOf r) w said)
+module _ (r : List ℕ) (s : Event) (ds : List ℕ) (ok : RackFine r) (w : ℕ) (said : Said) (xs : List ℕ) (alone : Alone r s ds (countOf r) w said)
     (x : xs ≡ nextRack r s ds) where
   -- its body where its entry says, in the next rack
   body-told : bodyOf xs w ≡ nextBody (kindAt r w) s (getD ds w 0) (bodyAt r w)
@@ -153,11 +150,11 @@ module _ (r : List ℕ) (e : ℕ) (f ds out : List ℕ) where
   shows-refused n q h = rw (← q, ne-eqb _ _ h) (refl, (refl, refl))
 
   -- not refused: a tags answered, and the rack is xs
-  module _ (none : refusalOf r e (length ds) (length out) ≡ 0) (s : Signal) (signal : s ≡ signalOf e f) (a w : ℕ) (said : Said) (xs : List ℕ)
+  module _ (none : refusalOf r e (length ds) (length out) ≡ 0) (s : Event) (signal : s ≡ aired e f) (a w : ℕ) (said : Said) (xs : List ℕ)
       (h : HeardOf r s ds (countOf r) a w said) (x : xs ≡ nextRack r s ds) where
     goes-on : eventOf r e f ds out ≡ played r s ds out
     unfolding eventOf
-    goes-on = rw (eq-eqb _ _ none) (ap (λ (t : Signal). played r t ds out) (sym signal))
+    goes-on = rw (eq-eqb _ _ none) (ap (λ (t : Event). played r t ds out) (sym signal))
 
     -- none answered, or several
     pub shows-silent : (a ≡ 1 → ⊥) → Shows (eventOf r e f ds out) (record { number = 0; answered = a; length = 0 }) xs out

@@ -14,7 +14,7 @@ use Rattle.frame.proofs.Lists.{gather-none, gather-more}
 use Rattle.rack.specs.declared.event.Said.{Said}
 use Rattle.rack.specs.File.{countOf, entryAt, kindAt, lengthAt, startOf, bodyAt, contents, rebuilt}
 use Rattle.rack.specs.Facts.{RackFine, TagFine}
-use Rattle.rack.specs.Event.{Signal, nextBody, saidBy, speaks, frameOf, answerBody, next, answer, nextRack, HeardOf}
+use Rattle.rack.specs.Event.{Event, nextBody, saidBy, speaks, frameOf, answerBody, next, answer, nextRack, HeardOf}
 use Rattle.rack.proofs.Places.{part-at, splice-at, start-none, start-more, kind-same, length-same}
 use Rattle.rack.proofs.Rebuilt.{contents-length, body-inside, body-long, front-length}
 use Rattle.rack.proofs.Tags.{body-length}
@@ -24,19 +24,19 @@ use Rattle.rack.proofs.Tags.{body-length}
 pub tag-fine : (r : List ℕ) → RackFine r → (i : ℕ) → i < countOf r → TagFine (kindAt r i) (bodyAt r i)
 tag-fine r ok i h = record { fits = rw (body-long r (ok .whole) i h) (ok .entry i h .fits); rules = ok .body i h .rules }
 
-pub next-sized : (r : List ℕ) (e : Signal) (ds : List ℕ) → RackFine r → (i : ℕ) → i < countOf r → length (next r e ds i) ≡ lengthAt r i
+pub next-sized : (r : List ℕ) (e : Event) (ds : List ℕ) → RackFine r → (i : ℕ) → i < countOf r → length (next r e ds i) ≡ lengthAt r i
 unfolding next
 next-sized r e ds ok i h = body-length (kindAt r i) e (getD ds i 0) (bodyAt r i) ∙ body-long r (ok .whole) i h
 
 -- ---- the rack after i steps
 
-abbrev pub front : List ℕ → Signal → List ℕ → ℕ → List ℕ
+abbrev pub front : List ℕ → Event → List ℕ → ℕ → List ℕ
 front r e ds i = contents r ++ gather i (next r e ds)
 
-pub passed : List ℕ → Signal → List ℕ → ℕ → List ℕ
+pub passed : List ℕ → Event → List ℕ → ℕ → List ℕ
 passed r e ds i = front r e ds i ++ drop (startOf r i) r
 
-module _ (r : List ℕ) (e : Signal) (ds : List ℕ) (ok : RackFine r) where
+module _ (r : List ℕ) (e : Event) (ds : List ℕ) (ok : RackFine r) where
   reaches : (i : ℕ) → i ≤ countOf r → length (front r e ds i) ≡ startOf r i
   reaches = front-length r (ok .whole) (next r e ds) (next-sized r e ds ok)
 
@@ -69,7 +69,7 @@ length-zero : {A : Type 0} (l : List A) → length l ≡ 0 → l ≡ []
 length-zero [] h = refl
 length-zero (x ∷ l) h = absurd (omega arith)
 
-module _ (r : List ℕ) (e : Signal) (ds : List ℕ) where
+module _ (r : List ℕ) (e : Event) (ds : List ℕ) where
   pub heard-none : (w : ℕ) (s : Said) → HeardOf r e ds 0 0 w s
   heard-none w s = record { count = ap length (sym (gather-none (answer r e ds))); alone = λ z. absurd (omega arith) }
 
@@ -108,7 +108,7 @@ module _ (r : List ℕ) (e : Signal) (ds : List ℕ) where
 
 -- ---- the head of the loop
 
-pub record Running (r : List ℕ) (e : Signal) (ds xs : List ℕ) (i a w : ℕ) (said : Said) (at : ℕ) : Type 0 where
+pub record Running (r : List ℕ) (e : Event) (ds xs : List ℕ) (i a w : ℕ) (said : Said) (at : ℕ) : Type 0 where
   pub upto : i ≤ countOf r
   pub most : a ≤ i
   pub is : xs ≡ passed r e ds i
@@ -116,7 +116,7 @@ pub record Running (r : List ℕ) (e : Signal) (ds xs : List ℕ) (i a w : ℕ) 
   pub place : at ≡ startOf r i
   pub heard : HeardOf r e ds i a w said
 
-pub running-none : (r : List ℕ) (e : Signal) (ds : List ℕ) (w : ℕ) (said : Said) (n : ℕ) → RackFine r → n ≡ countOf r
+pub running-none : (r : List ℕ) (e : Event) (ds : List ℕ) (w : ℕ) (said : Said) (n : ℕ) → RackFine r → n ≡ countOf r
     → Running r e ds r 0 0 w said (2 + 8 * n)
 running-none r e ds w said n ok c =
     record {
@@ -129,7 +129,7 @@ running-none r e ds w said n ok c =
     }
 
 -- ---- a turn of the loop
-module _ (r : List ℕ) (e : Signal) (ds xs : List ℕ) (i a w : ℕ) (said : Said) (at : ℕ) (ok : RackFine r) (run : Running r e ds xs i a w said at) (h : i < countOf r) where
+module _ (r : List ℕ) (e : Event) (ds xs : List ℕ) (i a w : ℕ) (said : Said) (at : ℕ) (ok : RackFine r) (run : Running r e ds xs i a w said at) (h : i < countOf r) where
   contents-same : take (entryAt (countOf r)) xs ≡ contents r
   contents-same = ap (take (entryAt (countOf r))) (run .is) ∙ passed-front r e ds ok i
 
@@ -189,7 +189,7 @@ module _ (r : List ℕ) (e : Signal) (ds xs : List ℕ) (i a w : ℕ) (said : Sa
 
 -- ---- the end of the loop
 
-pub running-done : (r : List ℕ) (e : Signal) (ds xs : List ℕ) (i a w : ℕ) (said : Said) (at : ℕ) → RackFine r → Running r e ds xs i a w said at
+pub running-done : (r : List ℕ) (e : Event) (ds xs : List ℕ) (i a w : ℕ) (said : Said) (at : ℕ) → RackFine r → Running r e ds xs i a w said at
     → countOf r ≤ i → HeardOf r e ds (countOf r) a w said × (xs ≡ nextRack r e ds)
 running-done r e ds xs i a w said at ok run h =
     let z : i ≡ countOf r = omega (arith, run .upto) in

@@ -30,17 +30,17 @@ use Rattle.chip.proofs.Answers as chip-answers
 use Rattle.rack.specs.declared.event.Said.the-variants as s
 use Rattle.rack.specs.File.{lengthFits, bodyRules}
 use Rattle.rack.specs.Facts.{TagFine, Sayable}
-use Rattle.rack.specs.Event.{Signal, signalOf, nextBody, saidBy, frameOf}
+use Rattle.rack.specs.Event.{Event, aired, nextBody, saidBy, frameOf}
 
 -- ---- sound signals
 
-pub record SignalSound (e : Signal) : Type 0 where
-  pub call : labels.Sound (e .request .call)
+pub record SignalSound (e : Event) : Type 0 where
+  pub call : labels.Sound (e .signal .label .call)
   pub sent : Bytes (e .bytes)
-  pub asked : chips.Sound (e .order)
+  pub asked : chips.Sound (e .signal .chip)
 
 -- what every event and frame make
-pub signal-sound : (e : ℕ) (f : List ℕ) → Bytes f → SignalSound (signalOf e f)
+pub signal-sound : (e : ℕ) (f : List ℕ) → Bytes f → SignalSound (aired e f)
 signal-sound e f b = record { call = label-decoded.heard-sound e f b; sent = label-decoded.data-bytes f b; asked = chip-decoded.heard-sound e f b }
 
 -- ---- what a length that fits is
@@ -61,11 +61,11 @@ module _ (k : ℕ) (t : eqb k 2 ≡ true) where
   unfolding bodyRules
   rules-chip b = rw t
 
-  pub next-chip : (e : Signal) (d : ℕ) (b : List ℕ) → nextBody k e d b ≡ nextChip (e .order) d b
+  pub next-chip : (e : Event) (d : ℕ) (b : List ℕ) → nextBody k e d b ≡ nextChip (e .signal .chip) d b
   unfolding nextBody
   next-chip e d b = rw t
 
-  pub said-chip : (e : Signal) (d : ℕ) (b : List ℕ) → saidBy k e d b ≡ s.Chip (saidChip (e .order) d b)
+  pub said-chip : (e : Event) (d : ℕ) (b : List ℕ) → saidBy k e d b ≡ s.Chip (saidChip (e .signal .chip) d b)
   unfolding saidBy
   said-chip e d b = rw t
 
@@ -74,22 +74,22 @@ module _ (k : ℕ) (t : eqb k 2 ≡ false) where
   unfolding bodyRules
   rules-label b = rw t
 
-  pub next-label : (e : Signal) (d : ℕ) (b : List ℕ) → nextBody k e d b ≡ nextLabel (e .request) (e .bytes) b
+  pub next-label : (e : Event) (d : ℕ) (b : List ℕ) → nextBody k e d b ≡ nextLabel (e .signal .label) (e .bytes) b
   unfolding nextBody
   next-label e d b = rw t
 
-  pub said-label : (e : Signal) (d : ℕ) (b : List ℕ) → saidBy k e d b ≡ s.Label (saidLabel (e .request) (length (e .bytes)) b)
+  pub said-label : (e : Event) (d : ℕ) (b : List ℕ) → saidBy k e d b ≡ s.Label (saidLabel (e .signal .label) (length (e .bytes)) b)
   unfolding saidBy
   said-label e d b = rw t
 
 -- ---- the laws
 
-pub body-length : (k : ℕ) (e : Signal) (d : ℕ) (b : List ℕ) → length (nextBody k e d b) ≡ length b
+pub body-length : (k : ℕ) (e : Event) (d : ℕ) (b : List ℕ) → length (nextBody k e d b) ≡ length b
 body-length k e d b = go (eqb k 2) refl
   where
     go : (t : Bool) → eqb k 2 ≡ t → length (nextBody k e d b) ≡ length b
-    go true t = ap length (next-chip k t e d b) ∙ chip-keeps.next-length (e .order) d b
-    go false t = ap length (next-label k t e d b) ∙ label-keeps.next-length (e .request) (e .bytes) b
+    go true t = ap length (next-chip k t e d b) ∙ chip-keeps.next-length (e .signal .chip) d b
+    go false t = ap length (next-label k t e d b) ∙ label-keeps.next-length (e .signal .label) (e .bytes) b
 
 -- what a fine body of its kind is
 pub chip-80 : (k : ℕ) (b : List ℕ) → eqb k 2 ≡ true → TagFine k b → length b ≡ 80
@@ -123,15 +123,15 @@ pub judged-label : (k : ℕ) (b : List ℕ) (v : Verdict) → eqb k 2 ≡ false 
     → (v ≡ bodyRules k b) × (v .place ≤ 8480)
 judged-label k b v t f e = (e ∙ sym (rules-label k t b), rw e (label-fine.rules-place b (fits-label k (length b) t f .1)))
 
-module _ (k : ℕ) (e : Signal) (d : ℕ) (b : List ℕ) (bs : Bytes b) (small : d < 256) (so : SignalSound e) (f : TagFine k b) where
+module _ (k : ℕ) (e : Event) (d : ℕ) (b : List ℕ) (bs : Bytes b) (small : d < 256) (so : SignalSound e) (f : TagFine k b) where
   pub body-bytes : Bytes (nextBody k e d b)
   body-bytes = go (eqb k 2) refl
     where
       go : (t : Bool) → eqb k 2 ≡ t → Bytes (nextBody k e d b)
-      go true t = rw (next-chip k t e d b) (chip-keeps.next-bytes (e .order) d b bs small)
+      go true t = rw (next-chip k t e d b) (chip-keeps.next-bytes (e .signal .chip) d b bs small)
       go false t =
           rw (next-label k t e d b)
-          (label-keeps.next-bytes (e .request) (e .bytes) b bs (so .sent) (label-fine.rules-fine b bs (label-kept k b t f)) (so .call))
+          (label-keeps.next-bytes (e .signal .label) (e .bytes) b bs (so .sent) (label-fine.rules-fine b bs (label-kept k b t f)) (so .call))
 
   keeps : bodyRules k (nextBody k e d b) .number ≡ 0
   keeps = go (eqb k 2) refl
@@ -139,13 +139,13 @@ module _ (k : ℕ) (e : Signal) (d : ℕ) (b : List ℕ) (bs : Bytes b) (small :
       go : (t : Bool) → eqb k 2 ≡ t → bodyRules k (nextBody k e d b) .number ≡ 0
       go true t =
           rw (rules-chip k t (nextBody k e d b), next-chip k t e d b)
-          (chip-keeps.next-keeps (e .order) d b (chip-80 k b t f) bs (chip-kept k b t f))
+          (chip-keeps.next-keeps (e .signal .chip) d b (chip-80 k b t f) bs (chip-kept k b t f))
       go false t =
           let g = label-fine.rules-fine b bs (label-kept k b t f) in
-          let m = label-keeps.next-keeps (e .request) (e .bytes) b bs g (so .call) in
-          let n = label-keeps.next-bytes (e .request) (e .bytes) b bs (so .sent) g (so .call) in
+          let m = label-keeps.next-keeps (e .signal .label) (e .bytes) b bs g (so .call) in
+          let n = label-keeps.next-bytes (e .signal .label) (e .bytes) b bs (so .sent) g (so .call) in
           rw (rules-label k t (nextBody k e d b), next-label k t e d b)
-          (ap (λ (v : Verdict). v .number) (label-fine.fine-rules (nextLabel (e .request) (e .bytes) b) n m))
+          (ap (λ (v : Verdict). v .number) (label-fine.fine-rules (nextLabel (e .signal .label) (e .bytes) b) n m))
 
   -- a step keeps the rules
   pub step-keeps : TagFine k (nextBody k e d b)
@@ -165,15 +165,15 @@ sized-same : (b c : List ℕ) → length c ≡ length b → getD c 11 0 ≡ getD
 unfolding Sized
 sized-same b c l p q z = rw (l, room-same b c p, p, q) z
 
-module _ (k : ℕ) (e : Signal) (d : ℕ) (b : List ℕ) (f : TagFine k b) where
+module _ (k : ℕ) (e : Event) (d : ℕ) (b : List ℕ) (f : TagFine k b) where
   -- the frame is the same from the old body and from the next
   pub frame-same : frameOf (saidBy k e d b) (nextBody k e d b) ≡ frameOf (saidBy k e d b) b
   unfolding saidBy frameOf
   frame-same = go (eqb k 2) refl
     where
       go : (t : Bool) → eqb k 2 ≡ t → frameOf (saidBy k e d b) (nextBody k e d b) ≡ frameOf (saidBy k e d b) b
-      go true t = rw (next-chip k t e d b, t) (chip-answers.same-frame (e .order) d b (chip-80 k b t f))
-      go false t = rw (next-label k t e d b, t) (label-answers.same-frame (e .request) (e .bytes) b (label-fine.sized-of b (label-kept k b t f)))
+      go true t = rw (next-chip k t e d b, t) (chip-answers.same-frame (e .signal .chip) d b (chip-80 k b t f))
+      go false t = rw (next-label k t e d b, t) (label-answers.same-frame (e .signal .label) (e .bytes) b (label-fine.sized-of b (label-kept k b t f)))
 
   -- the answer's writer has what it needs in the next body
   pub sayable-next : Sayable (saidBy k e d b) (nextBody k e d b)
@@ -184,12 +184,12 @@ module _ (k : ℕ) (e : Signal) (d : ℕ) (b : List ℕ) (f : TagFine k b) where
       go true t = rw t (omega (arith, chip-80 k b t f, body-length k e d b))
       go false t =
           let z = label-kept k b t f in
-          let c = nextLabel (e .request) (e .bytes) b in
-          let p : getD c 11 0 ≡ getD b 11 0 = numbers-stay (e .request) (e .bytes) b 11 (omega arith) (omega arith) in
-          let q : getD c 12 0 ≡ getD b 12 0 = numbers-stay (e .request) (e .bytes) b 12 (omega arith) (omega arith) in
+          let c = nextLabel (e .signal .label) (e .bytes) b in
+          let p : getD c 11 0 ≡ getD b 11 0 = numbers-stay (e .signal .label) (e .bytes) b 11 (omega arith) (omega arith) in
+          let q : getD c 12 0 ≡ getD b 12 0 = numbers-stay (e .signal .label) (e .bytes) b 12 (omega arith) (omega arith) in
           rw (next-label k t e d b, t) (
-            sized-same b c (label-keeps.next-length (e .request) (e .bytes) b) p q (label-fine.sized-of b z),
-            (omega (arith, q, label-fine.size-of b z), told-same _ b c p (label-answers.told-of (e .request) (length (e .bytes)) b)),
+            sized-same b c (label-keeps.next-length (e .signal .label) (e .bytes) b) p q (label-fine.sized-of b z),
+            (omega (arith, q, label-fine.size-of b z), told-same _ b c p (label-answers.told-of (e .signal .label) (length (e .bytes)) b)),
           )
 
   -- and its frame fits in the answer buffer
@@ -198,7 +198,7 @@ module _ (k : ℕ) (e : Signal) (d : ℕ) (b : List ℕ) (f : TagFine k b) where
   frame-short = go (eqb k 2) refl
     where
       go : (t : Bool) → eqb k 2 ≡ t → length (frameOf (saidBy k e d b) b) ≤ 36
-      go true t = rw t (omega (arith, chip-answers.frame-short (saidChip (e .order) d b) b))
+      go true t = rw t (omega (arith, chip-answers.frame-short (saidChip (e .signal .chip) d b) b))
       go false t =
           let z = label-kept k b t f in
-          rw t (label-answers.frame-short _ b (label-fine.sized-of b z) (label-fine.size-of b z) (label-answers.told-of (e .request) (length (e .bytes)) b))
+          rw t (label-answers.frame-short _ b (label-fine.sized-of b z) (label-fine.size-of b z) (label-answers.told-of (e .signal .label) (length (e .bytes)) b))

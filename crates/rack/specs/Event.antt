@@ -6,14 +6,13 @@ use Prim.Native.Nat.{ℕ, _<_}
 use lib.Dec.{eqb, ltb, leb}
 use lib.ListN.{length, getD, drop}
 use Rattle.frame.specs.Choose.{if_then_else_, gather}
-use Rattle.request.specs.Label as labels
+use Rattle.request.specs.Label.{dataOf}
 use Rattle.label.specs.Body.{nextLabel, saidLabel}
 use Rattle.label.specs.Answer as label
-use Rattle.request.specs.declared.label.Request.{Request}
-use Rattle.request.specs.Chip as chips
+use Rattle.request.specs.Signal.{signalOf}
+use Rattle.request.specs.declared.signal.Signal.{Signal}
 use Rattle.chip.specs.Body.{nextChip, saidChip}
 use Rattle.chip.specs.Answer as chip
-use Rattle.request.specs.declared.chip.Order.{Order}
 use Rattle.rack.specs.declared.event.Said.{Said}
 use Rattle.rack.specs.declared.event.Said.the-variants as s
 use Rattle.rack.specs.declared.event.Report.{Report}
@@ -21,23 +20,25 @@ use Rattle.rack.specs.File.{countOf, kindAt, bodyAt, rebuilt, verdictOf}
 
 -- ---- one tag
 
--- an event as the tags hear it: what it asks of labels, the bytes that a write to a label sends, what it asks of chips
-pub record Signal : Type 0 where
-  pub request : Request
+-- an event on the air: what it asks, and the bytes that a write to a label sends
+pub record Event : Type 0 where
+  pub signal : Signal
   pub bytes : List ℕ
-  pub order : Order
 
--- labels ignore event 5, chips ignore 3 and 4
-abbrev pub signalOf : ℕ → List ℕ → Signal
-signalOf e f = record { request = labels.heard e f; bytes = labels.dataOf f; order = chips.heard e f }
+abbrev pub carrying : Signal → List ℕ → Event
+carrying signal bytes = record { signal = signal; bytes = bytes }
+
+-- event e with frame f
+abbrev pub aired : ℕ → List ℕ → Event
+aired e f = carrying (signalOf e f) (dataOf f)
 
 -- a tag's next body follows from its old body, the event and its draw alone
-unfoldable pub nextBody : ℕ → Signal → ℕ → List ℕ → List ℕ
-nextBody kind e d b = if eqb kind 2 then nextChip (e .order) d b else nextLabel (e .request) (e .bytes) b
+unfoldable pub nextBody : ℕ → Event → ℕ → List ℕ → List ℕ
+nextBody kind e d b = if eqb kind 2 then nextChip (e .signal .chip) d b else nextLabel (e .signal .label) (e .bytes) b
 
 -- what it says
-unfoldable pub saidBy : ℕ → Signal → ℕ → List ℕ → Said
-saidBy kind e d b = if eqb kind 2 then s.Chip (saidChip (e .order) d b) else s.Label (saidLabel (e .request) (length (e .bytes)) b)
+unfoldable pub saidBy : ℕ → Event → ℕ → List ℕ → Said
+saidBy kind e d b = if eqb kind 2 then s.Chip (saidChip (e .signal .chip) d b) else s.Label (saidLabel (e .signal .label) (length (e .bytes)) b)
 
 unfoldable pub speaks : Said → Bool
 speaks (s.Label a) = label.speaks a
@@ -48,22 +49,22 @@ frameOf (s.Label a) b = label.answerFrame a b
 frameOf (s.Chip a) b = chip.answerFrame a b
 
 -- none, or one frame
-unfoldable pub answerBody : ℕ → Signal → ℕ → List ℕ → List (List ℕ)
+unfoldable pub answerBody : ℕ → Event → ℕ → List ℕ → List (List ℕ)
 answerBody kind e d b = if speaks (saidBy kind e d b) then frameOf (saidBy kind e d b) b ∷ [] else []
 
 -- ---- all tags; entry i uses draw i
 
-unfoldable pub next : List ℕ → Signal → List ℕ → ℕ → List ℕ
+unfoldable pub next : List ℕ → Event → List ℕ → ℕ → List ℕ
 next r e ds i = nextBody (kindAt r i) e (getD ds i 0) (bodyAt r i)
 
-unfoldable pub answer : List ℕ → Signal → List ℕ → ℕ → List (List ℕ)
+unfoldable pub answer : List ℕ → Event → List ℕ → ℕ → List (List ℕ)
 answer r e ds i = answerBody (kindAt r i) e (getD ds i 0) (bodyAt r i)
 
 -- the contents never change
-unfoldable pub nextRack : List ℕ → Signal → List ℕ → List ℕ
+unfoldable pub nextRack : List ℕ → Event → List ℕ → List ℕ
 nextRack r e ds = rebuilt r (next r e ds)
 
-unfoldable pub answers : List ℕ → Signal → List ℕ → List (List ℕ)
+unfoldable pub answers : List ℕ → Event → List ℕ → List (List ℕ)
 answers r e ds = gather (countOf r) (answer r e ds)
 
 -- ---- the call
@@ -89,7 +90,7 @@ pub record Outcome : Type 0 where
 abbrev pub refused : ℕ → List ℕ → List ℕ → Outcome
 refused n r out = record { report = record { number = n; answered = 0; length = 0 }; rack = r; out = out }
 
-abbrev pub played : List ℕ → Signal → List ℕ → List ℕ → Outcome
+abbrev pub played : List ℕ → Event → List ℕ → List ℕ → Outcome
 played r e ds out =
     record {
       report = record { number = 0; answered = length (answers r e ds); length = lengthAlone (answers r e ds) };
@@ -109,17 +110,17 @@ refusalOf r e draws room =
 -- rack, event number, frame, draws, answer buffer
 unfoldable pub eventOf : List ℕ → ℕ → List ℕ → List ℕ → List ℕ → Outcome
 eventOf r e f ds out =
-    if eqb (refusalOf r e (length ds) (length out)) 0 then played r (signalOf e f) ds out
+    if eqb (refusalOf r e (length ds) (length out)) 0 then played r (aired e f) ds out
     else refused (refusalOf r e (length ds) (length out)) r out
 
 -- ---- what the pass over the first i tags has heard: how many answered, and, of an answer that is alone, from whom
 
-pub record Alone (r : List ℕ) (e : Signal) (ds : List ℕ) (i w : ℕ) (said : Said) : Type 0 where
+pub record Alone (r : List ℕ) (e : Event) (ds : List ℕ) (i w : ℕ) (said : Said) : Type 0 where
   pub below : w < i
   pub says : said ≡ saidBy (kindAt r w) e (getD ds w 0) (bodyAt r w)
   pub spoke : speaks said ≡ true
   pub one : gather i (answer r e ds) ≡ frameOf said (bodyAt r w) ∷ []
 
-pub record HeardOf (r : List ℕ) (e : Signal) (ds : List ℕ) (i answered w : ℕ) (said : Said) : Type 0 where
+pub record HeardOf (r : List ℕ) (e : Event) (ds : List ℕ) (i answered w : ℕ) (said : Said) : Type 0 where
   pub count : answered ≡ length (gather i (answer r e ds))
   pub alone : answered ≡ 1 → Alone r e ds i w said

@@ -5,8 +5,9 @@ use crate::file::length_of;
 use crate::file::offset_of;
 use crate::tag::speaking;
 use crate::tag::step_tag;
-use request::label::Request;
-use request::chip::Order;
+use request::label::data_of;
+use request::signal::Signal;
+use request::signal::hear;
 ghost use mathlib.Core.Path.{_≡_};
 ghost use Prim.Native.Nat.{_+_, _≤_, _<_};
 ghost use lib.ListN.{length};
@@ -14,7 +15,7 @@ ghost use lib.Seq.{sets};
 ghost use Rattle.frame.specs.Number.{part, splice};
 ghost use Rattle.rack.specs.File.{countOf};
 ghost use Rattle.rack.specs.Facts.{RackFine, TagFine, Sayable, Tellable, bodyOf};
-ghost use Rattle.rack.specs.Event.{nextBody, saidBy, frameOf, nextRack, HeardOf, refusalOf, eventOf};
+ghost use Rattle.rack.specs.Event.{carrying, nextBody, saidBy, frameOf, nextRack, HeardOf, refusalOf, eventOf};
 
 // What a tag says.
 pub enum Said {
@@ -43,26 +44,25 @@ fn step_at(
     at: usize,
     len: usize,
     kind: u8,
-    request: Request,
+    signal: Signal,
     bytes: &[u8],
-    order: Order,
     draw: u8,
 ) -> Said
     requires { ⌜ at + len ≤ length (now rack) ⌝ }
     requires { ⌜ TagFine kind (part at len (now rack)) ⌝ }
-    ensures { λ r. ⌜ r ≡ saidBy kind (record { request = request; bytes = now (bytes .entry); order = order }) draw (part at len (now (rack .entry))) ⌝ }
-    ensures { λ r. ⌜ now (rack .exit) ≡ splice at len (nextBody kind (record { request = request; bytes = now (bytes .entry); order = order }) draw (part at len (now (rack .entry)))) (now (rack .entry)) ⌝ }
+    ensures { λ r. ⌜ r ≡ saidBy kind (carrying signal (now (bytes .entry))) draw (part at len (now (rack .entry))) ⌝ }
+    ensures { λ r. ⌜ now (rack .exit) ≡ splice at len (nextBody kind (carrying signal (now (bytes .entry))) draw (part at len (now (rack .entry)))) (now (rack .entry)) ⌝ }
 {
     let end = at + len;
-    step_tag(kind, &mut rack[at..end], request, bytes, order, draw)
+    step_tag(kind, &mut rack[at..end], signal, bytes, draw)
 }
 
-// Every tag takes its step in turn: the request, the bytes and the order are decoded once. Draw i is entry i's.
-fn play(rack: &mut [u8], request: Request, bytes: &[u8], order: Order, draws: &[u8]) -> Heard
+// Every tag takes its step in turn: the signal and the bytes are decoded once. Draw i is entry i's.
+fn play(rack: &mut [u8], signal: Signal, bytes: &[u8], draws: &[u8]) -> Heard
     requires { ⌜ RackFine (now rack) ⌝ }
     requires { ⌜ length (now draws) ≡ countOf (now rack) ⌝ }
-    ensures { λ r. ⌜ HeardOf (now (rack .entry)) (record { request = request; bytes = now (bytes .entry); order = order }) (now (draws .entry)) (countOf (now (rack .entry))) (r .answered) (r .who) (r .said) ⌝ }
-    ensures { λ r. ⌜ now (rack .exit) ≡ nextRack (now (rack .entry)) (record { request = request; bytes = now (bytes .entry); order = order }) (now (draws .entry)) ⌝ }
+    ensures { λ r. ⌜ HeardOf (now (rack .entry)) (carrying signal (now (bytes .entry))) (now (draws .entry)) (countOf (now (rack .entry))) (r .answered) (r .who) (r .said) ⌝ }
+    ensures { λ r. ⌜ now (rack .exit) ≡ nextRack (now (rack .entry)) (carrying signal (now (bytes .entry))) (now (draws .entry)) ⌝ }
 {
     let n = count(rack);
     let mut answered: u8 = 0;
@@ -73,7 +73,7 @@ fn play(rack: &mut [u8], request: Request, bytes: &[u8], order: Order, draws: &[
     while i < n {
         let kind = rack[2 + 8 * i];
         let len = length_of(rack, i);
-        let s = step_at(rack, at, len, kind, request, bytes, order, draws[i]);
+        let s = step_at(rack, at, len, kind, signal, bytes, draws[i]);
         if speaking(s) {
             answered = answered + 1;
             who = i;
@@ -147,9 +147,8 @@ pub fn event(rack: &mut [u8], number: u8, frame: &[u8], draws: &[u8], answer: &m
             length: 0,
         };
     }
-    let request = request::label::hear(number, frame);
-    let order = request::chip::hear(number, frame);
-    let heard = play(rack, request, request::label::data_of(frame), order, draws);
+    let signal = hear(number, frame);
+    let heard = play(rack, signal, data_of(frame), draws);
     if heard.answered != 1 {
         return Report {
             number: 0,

@@ -1,7 +1,6 @@
 // One tag of a rack, by its kind: its rules, its step and its answer's frame.
 use crate::event::Said;
-use request::label::Request;
-use request::chip::Order;
+use request::signal::Signal;
 use frame::verdict::Verdict;
 ghost use mathlib.Core.Path.{_≡_};
 ghost use mathlib.Core.Bool.{true};
@@ -9,7 +8,7 @@ ghost use Prim.Native.Nat.{_≤_};
 ghost use lib.ListN.{length};
 ghost use Rattle.rack.specs.File.{lengthFits, bodyRules};
 ghost use Rattle.rack.specs.Facts.{TagFine};
-ghost use Rattle.rack.specs.Event.{nextBody, saidBy, speaks};
+ghost use Rattle.rack.specs.Event.{carrying, nextBody, saidBy, speaks};
 
 // The rules of a body, by its kind.
 pub fn judge_tag(kind: u8, body: &[u8]) -> Verdict
@@ -26,19 +25,20 @@ pub fn judge_tag(kind: u8, body: &[u8]) -> Verdict
 pub fn step_tag(
     kind: u8,
     body: &mut [u8],
-    request: Request,
+    signal: Signal,
     bytes: &[u8],
-    order: Order,
     draw: u8,
 ) -> Said
     requires { ⌜ TagFine kind (now body) ⌝ }
-    ensures { λ r. ⌜ r ≡ saidBy kind (record { request = request; bytes = now (bytes .entry); order = order }) draw (now (body .entry)) ⌝ }
-    ensures { λ r. ⌜ now (body .exit) ≡ nextBody kind (record { request = request; bytes = now (bytes .entry); order = order }) draw (now (body .entry)) ⌝ }
+    ensures { λ r. ⌜ r ≡ saidBy kind (carrying signal (now (bytes .entry))) draw (now (body .entry)) ⌝ }
+    ensures { λ r. ⌜ now (body .exit) ≡ nextBody kind (carrying signal (now (bytes .entry))) draw (now (body .entry)) ⌝ }
 {
     if kind == 2 {
+        let order = signal.chip;
         let a = chip::body::step(body, order, draw);
         return Said::Chip(a);
     }
+    let request = signal.label;
     let a = label::body::step(body, request, bytes);
     Said::Label(a)
 }

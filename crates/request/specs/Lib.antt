@@ -2,3 +2,4 @@
 pub mod Table
 pub mod Label
 pub mod Chip
+pub mod Signal

@@ -5,7 +5,7 @@ use denote.Ref.{now}
 use borrow.Author.Needs.{needs}
 use lib.ListN.{length}
 use Rattle.rack.specs.Event.{refusalOf}
-use Rattle.rack.proofs.Outcomes.{Playable, playable, signal-is, shows-refused, shows-silent, tellable, shows-alone}
+use Rattle.rack.proofs.Outcomes.{Playable, playable, event-is, shows-refused, shows-silent, tellable, shows-alone}
 use Rattle.rack.proofs.event.event.Statement.{statement}
 use Rattle.rack.proofs.event.event.Tie as tie
 
@@ -23,26 +23,25 @@ returns : tie.Need-returns
 returns c = shows-refused _ _ _ _ _ _ (c .before .refuse .ensures) (c .if1 .taken)
 
 play-requires : tie.Need-play-requires
-play-requires c κs = (may (c .before .before .before .before) .rack, may (c .before .before .before .before) .drawn)
+play-requires c κs = (may (c .before .before .before) .rack, may (c .before .before .before) .drawn)
 
 returns-2 : tie.Need-returns-2
 returns-2 c =
     let p = c .before .before .before .before .play in
-    shows-silent _ _ _ _ _ (none (c .before .before .before .before .before .before .before .before .before)) _
-    (signal-is _ _ _ _ _ (c .before .before .before .before .before .before .before .before .hear .ensures) (c .before .before .before .before .before .data-of .ensures) (c .before .before .before .before .before .before .before .hear2 .ensures))
+    shows-silent _ _ _ _ _ (none (c .before .before .before .before .before .before .before .before)) _ (event-is _ _ _ _ (c .before .before .before .before .before .before .before .hear .ensures) (c .before .before .before .before .before .data-of .ensures))
     _ _ _ _ (p .ensures .0) (p .ensures .1) (c .if2 .taken)
 
 tell-requires : tie.Need-tell-requires
 tell-requires c κs =
     let p = c .before .before .before .before .before .before .play in
-    (tellable _ _ _ (may (c .before .before .before .before .before .before .before .before .before .before .before) .rack) _ _ _ (p .ensures .0 .alone (c .before .before .if2 .left)) (p .ensures .1), may (c .before .before .before .before .before .before .before .before .before .before .before) .space)
+    let m = may (c .before .before .before .before .before .before .before .before .before .before) in
+    (tellable _ _ _ (m .rack) _ _ _ (p .ensures .0 .alone (c .before .before .if2 .left)) (p .ensures .1), m .space)
 
 returns-3 : tie.Need-returns-3
 returns-3 c =
     let p = c .before .before .before .before .before .before .before .before .before .play in
     let t = c .before .before .tell .ensures in
-    shows-alone _ _ _ _ _ (none (c .before .before .before .before .before .before .before .before .before .before .before .before .before .before)) _
-    (signal-is _ _ _ _ _ (c .before .before .before .before .before .before .before .before .before .before .before .before .before .hear .ensures) (c .before .before .before .before .before .before .before .before .before .before .data-of .ensures) (c .before .before .before .before .before .before .before .before .before .before .before .before .hear2 .ensures))
+    shows-alone _ _ _ _ _ (none (c .before .before .before .before .before .before .before .before .before .before .before .before .before)) _ (event-is _ _ _ _ (c .before .before .before .before .before .before .before .before .before .before .before .before .hear .ensures) (c .before .before .before .before .before .before .before .before .before .before .data-of .ensures))
     _ _ _ _ (p .ensures .0) (p .ensures .1) (c .before .before .before .before .before .if2 .left) _ _ (t .0) (t .1)
 
 pub event-spec : {M : Type 1} → statement M
@@ -52,7 +51,6 @@ event-spec =
     (λ c κs. search needs)
     (λ c. search needs)
     returns
-    (λ c κs. search needs)
     (λ c κs. search needs)
     (λ c κs. search needs)
     play-requires

@@ -8,16 +8,17 @@ use denote.Ref.{now}
 use borrow.Author.Needs.{needs}
 use lib.ListN.{length}
 use Rattle.rack.specs.File.{countOf, entryAt}
+use Rattle.rack.specs.Event.{carrying}
 use Rattle.rack.proofs.Pass.{Running, running-none, running-done, turn-room, turn-asks, turn-spoken, turn-silent}
 use Rattle.rack.proofs.event.play.Statement.{statement}
 use Rattle.rack.proofs.event.play.Tie as tie
 
 abbrev Inv-loop : tie.InvT-loop
-Inv-loop rack₀ request bytes order draws n answered₀ who₀ said₀ at₀ i₀ rack answered who said at i =
-    Running rack₀ (record { request = request; bytes = bytes; order = order }) draws rack i answered who said at
+Inv-loop rack₀ signal bytes draws n answered₀ who₀ said₀ at₀ i₀ rack answered who said at i =
+    Running rack₀ (carrying signal bytes) draws rack i answered who said at
 
 abbrev μ-loop : tie.MeasureT-loop
-μ-loop rack₀ request bytes order draws n answered₀ who₀ said₀ at₀ i₀ rack answered who said at i = n - i
+μ-loop rack₀ signal bytes draws n answered₀ who₀ said₀ at₀ i₀ rack answered who said at i = n - i
 
 abbrev start : tie.In-loop Inv-loop μ-loop → tie.Start Inv-loop μ-loop
 start c = c .before .before .before .before .before .before .before

@@ -19,12 +19,12 @@ returns c =
     (ap s.Chip (e .0) ∙ sym (said-chip _ t _ _ _), e .1 ∙ sym (next-chip _ t _ _ _))
 
 step-requires-2 : tie.Need-step-requires-2
-step-requires-2 c κs = label-sized _ _ (ne-eqb _ _ (c .before .if1 .left)) (c .before .before .before .before .pre)
+step-requires-2 c κs = label-sized _ _ (ne-eqb _ _ (c .before .before .if1 .left)) (c .before .before .before .before .before .pre)
 
 returns-2 : tie.Need-returns-2
 returns-2 c =
     let e = c .before .before .step2 .ensures in
-    let t = ne-eqb _ _ (c .before .before .before .before .if1 .left) in
+    let t = ne-eqb _ _ (c .before .before .before .before .before .if1 .left) in
     (ap s.Label (e .0) ∙ sym (said-label _ t _ _ _), e .1 ∙ sym (next-label _ t _ _ _))
 
 pub step-tag-spec : {M : Type 1} → statement M

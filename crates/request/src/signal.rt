@@ -1,0 +1,20 @@
+// An event as the tags hear it: what it asks of labels and what it asks of chips.
+use crate::chip::Order;
+use crate::label::Request;
+ghost use mathlib.Core.Path.{_≡_};
+ghost use Rattle.request.specs.Signal.{signalOf};
+
+pub struct Signal {
+    pub label: Request,
+    pub chip: Order,
+}
+
+// What event e with frame f asks.
+pub fn hear(e: u8, f: &[u8]) -> Signal
+    ensures { λ r. ⌜ r ≡ signalOf e (now (f .entry)) ⌝ }
+{
+    Signal {
+        label: crate::label::hear(e, f),
+        chip: crate::chip::hear(e, f),
+    }
+}
