@@ -1,14 +1,14 @@
 // A chip's body: its rules, the chip it holds, and a step in place.
-use request::chip::Order;
-use frame::number::word_at;
 use crate::step::Answer;
 use crate::step::Chip;
 use crate::step::Stepped;
 use crate::step::Work;
+use frame::number::word_at;
 use frame::put::put_number;
 use frame::verdict::Verdict;
 use frame::verdict::good;
 use frame::verdict::offence;
+use request::chip::Order;
 ghost use mathlib.Core.Path.{_≡_};
 ghost use mathlib.Core.Bool.{not, _&&_, _||_};
 ghost use lib.Dec.{eqb, ltb};

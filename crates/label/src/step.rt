@@ -1,12 +1,12 @@
 // What a label does with a request: each step takes the old label and gives back the new one, what it answers and what is written.
+use frame::uid::ends_in;
+use frame::uid::ends_in_slot;
+use frame::uid::same_uid;
 use request::label::Call;
 use request::label::Family;
 use request::label::Order;
 use request::label::Request;
 use request::label::Target;
-use frame::uid::ends_in;
-use frame::uid::ends_in_slot;
-use frame::uid::same_uid;
 ghost use mathlib.Core.Path.{_≡_};
 ghost use Rattle.label.specs.Step.{told, withSlot, awake, silent, done, refused, off, on, ended, passes, ready, turn, inventory, endOfFrame, acts, perform, passed, asked, act, readBlock, writeBlock, lockBlock, writeAfi, lockAfi, writeDsfid, lockDsfid, withState};
 

@@ -18,7 +18,7 @@ use Rattle.frame.proofs.Verdicts.{not-none}
 use Rattle.request.specs.Label.{dataOf}
 use Rattle.request.specs.Signal.{signalOf}
 use Rattle.request.specs.declared.signal.Signal.{Signal}
-use Rattle.rack.specs.declared.event.Said.{Said}
+use Rattle.rack.specs.declared.tag.Said.{Said}
 use Rattle.rack.specs.declared.event.Report.{Report}
 use Rattle.rack.specs.File.{countOf, kindAt, lengthAt, offsetAt, startOf, bodyAt, verdictOf}
 use Rattle.rack.specs.Facts.{RackFine, Tellable, bodyOf}

@@ -11,7 +11,7 @@ use lib.Seq.{take-at, drop-drop, drop-length}
 use Rattle.frame.specs.Choose.{gather}
 use Rattle.frame.specs.Number.{part, splice}
 use Rattle.frame.proofs.Lists.{gather-none, gather-more}
-use Rattle.rack.specs.declared.event.Said.{Said}
+use Rattle.rack.specs.declared.tag.Said.{Said}
 use Rattle.rack.specs.File.{countOf, entryAt, kindAt, lengthAt, startOf, bodyAt, contents, rebuilt}
 use Rattle.rack.specs.Facts.{RackFine, TagFine}
 use Rattle.rack.specs.Event.{Event, nextBody, saidBy, speaks, frameOf, answerBody, next, answer, nextRack, HeardOf}
@@ -116,15 +116,15 @@ pub record Running (r : List ℕ) (e : Event) (ds xs : List ℕ) (i a w : ℕ) (
   pub place : at ≡ startOf r i
   pub heard : HeardOf r e ds i a w said
 
-pub running-none : (r : List ℕ) (e : Event) (ds : List ℕ) (w : ℕ) (said : Said) (n : ℕ) → RackFine r → n ≡ countOf r
-    → Running r e ds r 0 0 w said (2 + 8 * n)
-running-none r e ds w said n ok c =
+pub running-none : (r : List ℕ) (e : Event) (ds : List ℕ) (w : ℕ) (said : Said) (n at : ℕ) → RackFine r → n ≡ countOf r → at ≡ entryAt n
+    → Running r e ds r 0 0 w said at
+running-none r e ds w said n at ok c p =
     record {
       upto = omega arith;
       most = omega arith;
       is = sym (passed-none r e ds ok);
       same = refl;
-      place = rw c (sym (start-none r));
+      place = p ∙ rw c (sym (start-none r));
       heard = heard-none r e ds w said;
     }
 

@@ -27,7 +27,7 @@ use Rattle.chip.specs.Body.{chipRules, nextChip, saidChip}
 use Rattle.chip.proofs.Keeps as chip-keeps
 use Rattle.request.proofs.Orders as chip-decoded
 use Rattle.chip.proofs.Answers as chip-answers
-use Rattle.rack.specs.declared.event.Said.the-variants as s
+use Rattle.rack.specs.declared.tag.Said.the-variants as s
 use Rattle.rack.specs.File.{lengthFits, bodyRules}
 use Rattle.rack.specs.Facts.{TagFine, Sayable}
 use Rattle.rack.specs.Event.{Event, aired, nextBody, saidBy, frameOf}

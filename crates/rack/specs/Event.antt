@@ -13,8 +13,8 @@ use Rattle.request.specs.Signal.{signalOf}
 use Rattle.request.specs.declared.signal.Signal.{Signal}
 use Rattle.chip.specs.Body.{nextChip, saidChip}
 use Rattle.chip.specs.Answer as chip
-use Rattle.rack.specs.declared.event.Said.{Said}
-use Rattle.rack.specs.declared.event.Said.the-variants as s
+use Rattle.rack.specs.declared.tag.Said.{Said}
+use Rattle.rack.specs.declared.tag.Said.the-variants as s
 use Rattle.rack.specs.declared.event.Report.{Report}
 use Rattle.rack.specs.File.{countOf, kindAt, bodyAt, rebuilt, verdictOf}
 

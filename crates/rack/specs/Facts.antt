@@ -8,8 +8,8 @@ use Rattle.frame.specs.Judge.{fine}
 use Rattle.frame.specs.Number.{part}
 use Rattle.label.specs.Body.{Sized}
 use Rattle.label.specs.Answer.{Told}
-use Rattle.rack.specs.declared.event.Said.{Said}
-use Rattle.rack.specs.declared.event.Said.the-variants as s
+use Rattle.rack.specs.declared.tag.Said.{Said}
+use Rattle.rack.specs.declared.tag.Said.the-variants as s
 use Rattle.rack.specs.File.{countOf, entryAt, kindAt, lengthAt, offsetAt, startOf, bodyAt, headVerdict, entryVerdict, bodyVerdict, bodyRules, lengthFits}
 
 pub record HeadFine (r : List ℕ) : Type 0 where

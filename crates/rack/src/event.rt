@@ -1,10 +1,14 @@
 // The event.
 use crate::file::count;
+use crate::file::entry_of;
 use crate::file::judge;
+use crate::file::kind_of;
 use crate::file::length_of;
 use crate::file::offset_of;
+use crate::tag::Said;
 use crate::tag::speaking;
 use crate::tag::step_tag;
+use crate::tag::write_said;
 use request::label::data_of;
 use request::signal::Signal;
 use request::signal::hear;
@@ -14,14 +18,8 @@ ghost use lib.ListN.{length};
 ghost use lib.Seq.{sets};
 ghost use Rattle.frame.specs.Number.{part, splice};
 ghost use Rattle.rack.specs.File.{countOf};
-ghost use Rattle.rack.specs.Facts.{RackFine, TagFine, Sayable, Tellable, bodyOf};
+ghost use Rattle.rack.specs.Facts.{RackFine, TagFine, Tellable, bodyOf};
 ghost use Rattle.rack.specs.Event.{carrying, nextBody, saidBy, frameOf, nextRack, HeardOf, refusalOf, eventOf};
-
-// What a tag says.
-pub enum Said {
-    Label(label::step::Answer),
-    Chip(chip::step::Answer),
-}
 
 // What an event reports: the refusal's number or 0, how many tags answered, the length of an answer that was alone.
 #[repr(C)]
@@ -68,10 +66,10 @@ fn play(rack: &mut [u8], signal: Signal, bytes: &[u8], draws: &[u8]) -> Heard
     let mut answered: u8 = 0;
     let mut who: usize = 0;
     let mut said = Said::Chip(chip::step::Answer::Silent);
-    let mut at = 2 + 8 * n;
+    let mut at = entry_of(n);
     let mut i = 0;
     while i < n {
-        let kind = rack[2 + 8 * i];
+        let kind = kind_of(rack, i);
         let len = length_of(rack, i);
         let s = step_at(rack, at, len, kind, signal, bytes, draws[i]);
         if speaking(s) {
@@ -110,17 +108,6 @@ fn refuse(rack: &[u8], number: u8, draws: usize, room: usize) -> u8
         return 4;
     }
     0
-}
-
-// Writes the frame of what a tag said, taken from its body, to the front of the answer buffer.
-fn write_said(said: Said, body: &[u8], answer: &mut [u8]) -> usize
-    requires { ⌜ Sayable said (now body) × (64 ≤ length (now answer)) ⌝ }
-    ensures { λ r. ⌜ (r ≡ length (frameOf said (now (body .entry)))) × (now (answer .exit) ≡ sets (now (answer .entry)) 0 (frameOf said (now (body .entry)))) ⌝ }
-{
-    match said {
-        Said::Label(a) => label::answer::write_answer(a, body, answer),
-        Said::Chip(a) => chip::answer::write_answer(a, body, answer),
-    }
 }
 
 // Tag i's frame opens the answer buffer.

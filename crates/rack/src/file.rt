@@ -10,7 +10,7 @@ ghost use Prim.Native.Nat.{_+_, _*_, _≤_, _<_};
 ghost use lib.Dec.{eqb};
 ghost use lib.ListN.{length};
 ghost use Rattle.frame.specs.Judge.{firstOf};
-ghost use Rattle.rack.specs.File.{countOf, entryAt, lengthAt, offsetAt, startOf, lengthFits, headVerdict, entryVerdict, bodyVerdict, endVerdict, verdictOf};
+ghost use Rattle.rack.specs.File.{countOf, entryAt, kindAt, lengthAt, offsetAt, startOf, lengthFits, headVerdict, entryVerdict, bodyVerdict, endVerdict, verdictOf};
 ghost use Rattle.rack.specs.Facts.{HeadFine, EntryFine, EntriesFine};
 
 // The number of tags.
@@ -19,6 +19,22 @@ pub fn count(rack: &[u8]) -> usize
     ensures { λ r. ⌜ r ≡ countOf (now (rack .entry)) ⌝ }
 {
     rack[1] as usize
+}
+
+// Where entry i stands; behind the last entry the first body starts.
+pub fn entry_of(i: usize) -> usize
+    requires { ⌜ i ≤ 255 ⌝ }
+    ensures { λ r. ⌜ r ≡ entryAt i ⌝ }
+{
+    2 + 8 * i
+}
+
+// The kind of tag i, from its entry.
+pub fn kind_of(rack: &[u8], i: usize) -> u8
+    requires { ⌜ (i < 64) × (entryAt i + 8 ≤ length (now rack)) ⌝ }
+    ensures { λ r. ⌜ r ≡ kindAt (now (rack .entry)) i ⌝ }
+{
+    rack[2 + 8 * i]
 }
 
 // The length of body i, from its entry.

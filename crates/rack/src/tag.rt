@@ -1,14 +1,20 @@
 // One tag of a rack, by its kind: its rules, its step and its answer's frame.
-use crate::event::Said;
-use request::signal::Signal;
 use frame::verdict::Verdict;
+use request::signal::Signal;
 ghost use mathlib.Core.Path.{_≡_};
 ghost use mathlib.Core.Bool.{true};
 ghost use Prim.Native.Nat.{_≤_};
 ghost use lib.ListN.{length};
+ghost use lib.Seq.{sets};
 ghost use Rattle.rack.specs.File.{lengthFits, bodyRules};
-ghost use Rattle.rack.specs.Facts.{TagFine};
-ghost use Rattle.rack.specs.Event.{carrying, nextBody, saidBy, speaks};
+ghost use Rattle.rack.specs.Facts.{TagFine, Sayable};
+ghost use Rattle.rack.specs.Event.{carrying, nextBody, saidBy, speaks, frameOf};
+
+// What a tag says.
+pub enum Said {
+    Label(label::step::Answer),
+    Chip(chip::step::Answer),
+}
 
 // The rules of a body, by its kind.
 pub fn judge_tag(kind: u8, body: &[u8]) -> Verdict
@@ -22,13 +28,7 @@ pub fn judge_tag(kind: u8, body: &[u8]) -> Verdict
 }
 
 // A tag takes its step: only its body is lent, and so only its body changes.
-pub fn step_tag(
-    kind: u8,
-    body: &mut [u8],
-    signal: Signal,
-    bytes: &[u8],
-    draw: u8,
-) -> Said
+pub fn step_tag(kind: u8, body: &mut [u8], signal: Signal, bytes: &[u8], draw: u8) -> Said
     requires { ⌜ TagFine kind (now body) ⌝ }
     ensures { λ r. ⌜ r ≡ saidBy kind (carrying signal (now (bytes .entry))) draw (now (body .entry)) ⌝ }
     ensures { λ r. ⌜ now (body .exit) ≡ nextBody kind (carrying signal (now (bytes .entry))) draw (now (body .entry)) ⌝ }
@@ -50,5 +50,16 @@ pub fn speaking(said: Said) -> bool
     match said {
         Said::Label(a) => label::answer::speaking(a),
         Said::Chip(a) => chip::answer::speaking(a),
+    }
+}
+
+// Writes the frame of what a tag said, taken from its body, to the front of the answer buffer.
+pub fn write_said(said: Said, body: &[u8], answer: &mut [u8]) -> usize
+    requires { ⌜ Sayable said (now body) × (64 ≤ length (now answer)) ⌝ }
+    ensures { λ r. ⌜ (r ≡ length (frameOf said (now (body .entry)))) × (now (answer .exit) ≡ sets (now (answer .entry)) 0 (frameOf said (now (body .entry)))) ⌝ }
+{
+    match said {
+        Said::Label(a) => label::answer::write_answer(a, body, answer),
+        Said::Chip(a) => chip::answer::write_answer(a, body, answer),
     }
 }

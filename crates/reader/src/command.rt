@@ -1,8 +1,8 @@
 // What a reader can send, and whether there is a request with these fields.
+use frame::uid::low_bits;
+use request::chip::is_listed;
 use request::label::Family;
 use request::label::Target;
-use request::chip::is_listed;
-use frame::uid::low_bits;
 ghost use mathlib.Core.Path.{_≡_};
 ghost use mathlib.Core.Bool.{not, _&&_};
 ghost use lib.Dec.{eqb, leb};

@@ -6,6 +6,7 @@ mod words;
 use crate::words::number;
 use frame::number::byte_at;
 use libc::STDERR_FILENO;
+use rack::file::entry_of;
 use text::file::load;
 use text::print::say;
 
@@ -23,10 +24,10 @@ fn show_tag(i: usize, kind: u8, body: &[u8]) {
 // Every tag, in the order of the entries.
 fn show_tags(tags: &[u8]) {
     let n = byte_at(tags, 1) as usize;
-    let mut at = 2 + 8 * n;
+    let mut at = entry_of(n);
     let mut i = 0;
     while i < n {
-        let e = 2 + 8 * i;
+        let e = entry_of(i);
         let len = byte_at(tags, e + 2) as usize + 256 * byte_at(tags, e + 3) as usize;
         if tags.len() < at {
             return;

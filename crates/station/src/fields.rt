@@ -1,9 +1,9 @@
 // A command put together from the numbers that C hands over.
-use request::label::Family;
-use request::label::Target;
 use reader::command::ChipTask;
 use reader::command::Command;
 use reader::command::Task;
+use request::label::Family;
+use request::label::Target;
 ghost use mathlib.Core.Path.{_≡_};
 ghost use Rattle.station.specs.Fields.{familyOf, targetOf, taskCommand, chipCommand, labelCommand, commandOf};
 

@@ -1,5 +1,6 @@
 // What an event changed in a rack, byte by byte: the tag, the place in its body, the old value and the new one.
 use frame::number::byte_at;
+use rack::file::entry_of;
 use text::hex::say_byte;
 use text::print::say_number;
 
@@ -27,10 +28,10 @@ fn print_tag(old: &[u8], new: &[u8], tag: usize, at: usize, len: usize) {
 // The changes of every tag, in the order of the entries.
 pub fn print_changes(old: &[u8], new: &[u8]) {
     let n = byte_at(new, 1) as usize;
-    let mut at = 2 + 8 * n;
+    let mut at = entry_of(n);
     let mut i = 0;
     while i < n {
-        let e = 2 + 8 * i;
+        let e = entry_of(i);
         let len = byte_at(new, e + 2) as usize + 256 * byte_at(new, e + 3) as usize;
         print_tag(old, new, i, at, len);
         at = std::num::wrapping_add_usize(at, len);

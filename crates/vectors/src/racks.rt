@@ -1,10 +1,10 @@
 // Events and walks as calls: their numbers, and whether a lent buffer was written to.
-use request::label::Family;
 use frame::number::byte_at;
 use inventory::walk::Walked;
 use inventory::walk::walk;
 use rack::event::Report;
 use rack::event::event;
+use request::label::Family;
 use script::replies::print_uids;
 use text::print::say;
 use text::print::say_number;

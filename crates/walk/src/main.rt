@@ -1,6 +1,6 @@
 // walk: reads a rack from standard input and walks it with no AFI. Prints the rounds, then the UIDs, high byte first; or what refuses it.
-use request::label::Family;
 use inventory::walk::walk;
+use request::label::Family;
 use script::replies::print_uids;
 use text::file::load_input;
 use text::print::line_end;

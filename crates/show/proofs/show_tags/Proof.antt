@@ -16,20 +16,14 @@ byte-at-requires c κs = search needs
 cast-n : tie.Need-cast-n Inv-loop μ-loop
 cast-n c = search needs
 
-mul-at : tie.Need-mul-at Inv-loop μ-loop
-mul-at c = search needs
-
-add-at : tie.Need-add-at Inv-loop μ-loop
-add-at c = search needs
+entry-of-requires : tie.Need-entry-of-requires Inv-loop μ-loop
+entry-of-requires c κs = search needs
 
 loop-holds : tie.Need-loop-holds Inv-loop μ-loop
 loop-holds c = search needs
 
-mul-e : tie.Need-mul-e Inv-loop μ-loop
-mul-e c = search needs
-
-add-e : tie.Need-add-e Inv-loop μ-loop
-add-e c = search needs
+entry-of-requires-2 : tie.Need-entry-of-requires-2 Inv-loop μ-loop
+entry-of-requires-2 c κs = search needs
 
 add-byte-at : tie.Need-add-byte-at Inv-loop μ-loop
 add-byte-at c = search needs
@@ -102,11 +96,9 @@ show-tags-spec =
     μ-loop
     byte-at-requires
     cast-n
-    mul-at
-    add-at
+    entry-of-requires
     loop-holds
-    mul-e
-    add-e
+    entry-of-requires-2
     add-byte-at
     byte-at-requires-2
     cast-len

@@ -4,7 +4,7 @@ use mathlib.Core.Path.{ap, sym, _∙_}
 use native.Mathlib.Omega.{arith}
 use borrow.Author.Needs.{needs}
 use borrow.Author.Tests.{eq-eqb, ne-eqb}
-use Rattle.rack.specs.declared.event.Said.the-variants as s
+use Rattle.rack.specs.declared.tag.Said.the-variants as s
 use Rattle.rack.proofs.Tags.{chip-80, label-sized, said-chip, said-label, next-chip, next-label}
 use Rattle.rack.proofs.tag.step_tag.Statement.{statement}
 use Rattle.rack.proofs.tag.step_tag.Tie as tie

@@ -3,8 +3,8 @@
 use borrow.Author.Needs.{needs}
 use Rattle.rack.specs.Facts.{Sayable}
 use Rattle.rack.specs.Event.{frameOf}
-use Rattle.rack.proofs.event.write_said.Statement.{statement}
-use Rattle.rack.proofs.event.write_said.Tie as tie
+use Rattle.rack.proofs.tag.write_said.Statement.{statement}
+use Rattle.rack.proofs.tag.write_said.Tie as tie
 
 write-answer-requires : tie.Need-write-answer-requires
 unfolding Sayable
