@@ -64,3 +64,23 @@ framed-one x = length-framed 0xFFFF true (x ∷ [])
 
 pub framed-part : (at k : ℕ) (b : List ℕ) → at + k ≤ length b → length (framed (part at k b)) ≡ k + 2
 framed-part at k b h = length-framed 0xFFFF true (part at k b) ∙ ap (λ (n : ℕ). n + 2) (length-part at k b h)
+
+-- ---- the room that an answer's frame takes
+module _ (x : Answer) (b : List ℕ) (n : ℕ) (room : length (answerFrame x b) ≤ n) where
+  pub id-room : (id : ℕ) → x ≡ a.Id id → 3 ≤ n
+  unfolding answerFrame
+  id-room id q =
+      let h : length (framed (id ∷ [])) ≤ n = rw q at room in
+      omega (arith, framed-one id)
+
+  pub block-room : (m : ℕ) → x ≡ a.Block m → 80 ≤ length b → 6 ≤ n
+  unfolding answerFrame
+  block-room m q l =
+      let h : length (framed (part (placeOf m) 4 b)) ≤ n = rw q at room in
+      omega (arith, framed-part (placeOf m) 4 b (omega (arith, place-fits m)))
+
+  pub uid-room : x ≡ a.Uid → 80 ≤ length b → 10 ≤ n
+  unfolding answerFrame
+  uid-room q l =
+      let h : length (framed (part 68 8 b)) ≤ n = rw q at room in
+      omega (arith, framed-part 68 8 b (omega arith))

@@ -34,7 +34,7 @@ fn say_id(id: u8, out: &mut [u8]) -> usize
 
 // Writes the frame of an answer to the front of out, and returns its length.
 pub fn write_answer(a: Answer, b: &[u8], out: &mut [u8]) -> usize
-    requires { ⌜ (80 ≤ length (now b)) × (64 ≤ length (now out)) ⌝ }
+    requires { ⌜ (80 ≤ length (now b)) × (length (answerFrame a (now b)) ≤ length (now out)) ⌝ }
     ensures { λ r. ⌜ (r ≡ length (answerFrame a (now (b .entry)))) × (now (out .exit) ≡ sets (now (out .entry)) 0 (answerFrame a (now (b .entry)))) ⌝ }
 {
     match a {

@@ -8,7 +8,7 @@ use Prim.Native.Nat.{ℕ, _+_, _^_, _≤_, _<_}
 use native.Mathlib.Omega.{arith}
 use borrow.Author.Tests.{eq-eqb, eqb-true}
 use lib.Dec.{eqb, ltb, leb}
-use lib.ListN.{length, getD, replicate, length-replicate}
+use lib.ListN.{length, getD, length-replicate}
 use Rattle.frame.specs.Choose.{gather}
 use Rattle.frame.specs.Number.{Bytes}
 use Rattle.frame.specs.declared.verdict.Verdict.{Verdict}
@@ -24,7 +24,7 @@ use Rattle.request.specs.Chip as chips
 use Rattle.rack.specs.File.{countOf, entryAt, kindAt, lengthAt, startOf, bodyAt, rebuilt, lengthFits, entryVerdict, bodyRules}
 use Rattle.rack.specs.Facts.{RackFine}
 use Rattle.rack.specs.Event.{Event, Outcome, aired, next, answer, nextRack, answers, played, refusalOf, eventOf}
-use Rattle.inventory.specs.Walk.{request, sent}
+use Rattle.inventory.specs.Walk.{request, blank, sent}
 use Rattle.inventory.proofs.Sent.{event, draws}
 use Rattle.label.proofs.Fine.{rules-fine}
 use Rattle.request.proofs.Back.{sixteen-back, sixteen-afi-back}
@@ -83,17 +83,17 @@ rebuilt-fine r g ok h =
 
 -- ---- no refusal applies
 
-accepted : (r : List ℕ) → RackFine r → (e : ℕ) → (leb 1 e && leb e 5) ≡ true → refusalOf r e (length (draws r)) (length {A = ℕ} (replicate 64 0)) ≡ 0
+accepted : (r : List ℕ) → RackFine r → (e : ℕ) → (leb 1 e && leb e 5) ≡ true → refusalOf r e (length (draws r)) (length blank) ≡ 0
 unfolding refusalOf
 accepted r ok e h = rw (fine-rack r ok, length-replicate {A = ℕ} (countOf r) 0, eq-eqb (countOf r) (countOf r) refl, h) refl
 
-plays : (r : List ℕ) → RackFine r → (e : ℕ) → (leb 1 e && leb e 5) ≡ true → (f : List ℕ) → sent r e f ≡ played r (aired e f) (draws r) (replicate 64 0)
+plays : (r : List ℕ) → RackFine r → (e : ℕ) → (leb 1 e && leb e 5) ≡ true → (f : List ℕ) → sent r e f ≡ played r (aired e f) (draws r) blank
 unfolding sent eventOf
 plays r ok e h f = rw (accepted r ok e h) refl
 
 -- a call of the walk played
 abbrev pub told : List ℕ → Call → Outcome
-told r call = played r (event call) (draws r) (replicate 64 0)
+told r call = played r (event call) (draws r) blank
 
 pub ends : (r : List ℕ) → RackFine r → sent r 4 [] ≡ told r EndOfFrame
 unfolding labels.heard labels.dataOf chips.heard
@@ -129,7 +129,7 @@ module _ (r : List ℕ) (ok : Fine r) (family : Family) (m e : ℕ) where
   opens short low =
       let bs = labels.dataOf (request family m e) in
       plays r (ok .rack) 3 refl (request family m e)
-      ∙ ap (λ (x : Event). played r x (draws r) (replicate 64 0)) (signal-reads family m e short low)
-      ∙ played-same r (eventWith bs (Inventory family true m e)) (event (Inventory family true m e)) (draws r) (replicate 64 0)
+      ∙ ap (λ (x : Event). played r x (draws r) blank) (signal-reads family m e short low)
+      ∙ played-same r (eventWith bs (Inventory family true m e)) (event (Inventory family true m e)) (draws r) blank
       (answers-first bs (draws r) ∙ sym (answers-first [] (draws r)))
       (next-first bs (draws r) ∙ sym (next-first [] (draws r)))

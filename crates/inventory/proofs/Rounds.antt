@@ -5,7 +5,7 @@ use mathlib.Core.Bool.{true}
 use mathlib.Core.List.{List, []}
 use Prim.Native.Nat.{ℕ, zero, suc, _^_, _≤_, _<_}
 use native.Mathlib.Omega.{arith}
-use lib.ListN.{length, getD, replicate}
+use lib.ListN.{length, getD}
 use Rattle.frame.specs.Choose.{gather}
 use Rattle.frame.specs.Number.{part}
 use Rattle.request.specs.declared.label.Family.{Family}
@@ -14,7 +14,7 @@ use Rattle.request.specs.declared.label.Call.the-variants.{Inventory, EndOfFram
 use Rattle.rack.specs.File.{countOf, kindAt, lengthAt, bodyAt, rebuilt}
 use Rattle.rack.specs.Facts.{RackFine}
 use Rattle.rack.specs.Event.{Outcome, opened}
-use Rattle.inventory.specs.Walk.{slotOutcome, hits, cleared}
+use Rattle.inventory.specs.Walk.{slotOutcome, blank, hits, cleared}
 use Rattle.inventory.proofs.Sent.{event, draws, after, heard}
 use Rattle.rack.proofs.Places.{gather-ext}
 use Rattle.rack.proofs.Rebuilt.{body-long, rebuilt-ext}
@@ -38,9 +38,9 @@ unfolding after
 told-rack r call = refl
 
 told-heard : (r : List ℕ) (call : Call) (fs : List (List ℕ)) → heard r call ≡ fs
-    → (told r call .report .answered ≡ length fs) × (told r call .out ≡ opened fs (replicate 64 0))
+    → (told r call .report .answered ≡ length fs) × (told r call .out ≡ opened fs blank)
 unfolding heard
-told-heard r call fs h = (ap length h, ap (λ (gs : List (List ℕ)). opened gs (replicate 64 0)) h)
+told-heard r call fs h = (ap length h, ap (λ (gs : List (List ℕ)). opened gs blank) h)
 
 module _ (r : List ℕ) (fine : Fine r) (family : Family) (m e : ℕ) (short : m ≤ 60) (low : e < 2 ^ m) where
   -- the bodies in slot s
@@ -128,6 +128,6 @@ module _ (r : List ℕ) (fine : Fine r) (family : Family) (m e : ℕ) (short : m
   frames-suc : (s : ℕ) → s < 15 → heard (slotOutcome r family m e s .rack) EndOfFrame ≡ frames (suc s)
   frames-suc s h = ap (λ (x : List ℕ). heard x EndOfFrame) (in-slot s (omega arith)) ∙ step-heard s h
 
-  pub heard-in : (s : ℕ) → s ≤ 15 → (hits (slotOutcome r family m e s) ≡ length (frames s)) × (slotOutcome r family m e s .out ≡ opened (frames s) (replicate 64 0))
+  pub heard-in : (s : ℕ) → s ≤ 15 → (hits (slotOutcome r family m e s) ≡ length (frames s)) × (slotOutcome r family m e s .out ≡ opened (frames s) blank)
   heard-in zero h = rw slot-zero (told-heard r (Inventory family true m e) (frames 0) frames-zero)
   heard-in (suc s) h = rw (slot-suc s (omega arith)) (told-heard (slotOutcome r family m e s .rack) EndOfFrame (frames (suc s)) (frames-suc s (omega arith)))

@@ -6,7 +6,7 @@ use Prim.Native.Nat.{ℕ, zero, suc, _+_, _^_, _≤_, _<_}
 use native.Mathlib.Omega.{arith}
 use borrow.Author.Tests.{ne-eqb}
 use lib.Dec.{eqb}
-use lib.ListN.{length, getD, drop, replicate, length-map}
+use lib.ListN.{length, getD, drop, length-map}
 use lib.Seq.{length-take-le, take-at}
 use Rattle.frame.specs.Choose.{if_then_else_, gather}
 use Rattle.frame.specs.Number.{num, bytesOf, part, Bytes}
@@ -23,7 +23,7 @@ use Rattle.rack.specs.File.{countOf, kindAt, bodyAt}
 use Rattle.rack.specs.Event.{opened}
 use Rattle.inventory.specs.Endings.{ending}
 use Rattle.inventory.specs.Walk as walk
-use Rattle.inventory.specs.Walk.{slotOutcome, hits, uidAt, uidsTo, uids}
+use Rattle.inventory.specs.Walk.{slotOutcome, blank, hits, uidAt, uidsTo, uids}
 use Rattle.inventory.specs.Promise.{flat}
 use Rattle.inventory.proofs.Sent.{uidAlone}
 use Rattle.label.proofs.Slots.{found-frame}
@@ -137,7 +137,7 @@ module _ (r : List ℕ) (fine : Fine r) (family : Family) (m e : ℕ) (short : m
   heard-uid : walk.alone (slotOutcome r family m e s) ≡ uidAlone heard
   heard-uid =
       let i = heard-in r fine family m e short low s h in
-      rw (i .0, i .1) (opened-alone heard (replicate 64 0) frames-proper)
+      rw (i .0, i .1) (opened-alone heard blank frames-proper)
 
   pub heard-alone : walk.alone (slotOutcome r family m e s) ≡ flat (lone (members (4 + m) (mask m e s) (uids family r)))
   heard-alone = heard-uid ∙ alone-flat heard frames-proper ∙ ap (λ (us : List ℕ). flat (lone us)) frames-members

@@ -13,7 +13,7 @@ use Rattle.label.specs.Slots.{on, clear}
 use Rattle.request.specs.declared.label.Family.{Family}
 use Rattle.request.specs.declared.label.Family.the-variants.{Any, Only}
 use Rattle.rack.specs.File.{countOf, kindAt, bodyAt, rebuilt, verdictOf}
-use Rattle.rack.specs.Event.{Outcome, eventOf}
+use Rattle.rack.specs.Event.{Outcome, least, eventOf}
 use Rattle.inventory.specs.declared.walk.Walked.{Walked}
 use Rattle.inventory.specs.Endings.{count}
 
@@ -24,9 +24,13 @@ unfoldable pub request : Family → ℕ → ℕ → List ℕ
 request Any m e = framed (6 ∷ 1 ∷ m ∷ bytesOf (bytesFor m) e)
 request (Only afi) m e = framed (22 ∷ 1 ∷ afi ∷ m ∷ bytesOf (bytesFor m) e)
 
--- an event sent to a rack, with a draw for each tag and an answer buffer of 64 bytes; labels use no draw
+-- the answer buffer of the walk's own events
+abbrev pub blank : List ℕ
+blank = replicate least 0
+
+-- an event sent to a rack, with a draw for each tag and an answer buffer; labels use no draw
 unfoldable pub sent : List ℕ → ℕ → List ℕ → Outcome
-sent r e f = eventOf r e f (replicate (countOf r) 0) (replicate 64 0)
+sent r e f = eventOf r e f (replicate (countOf r) 0) blank
 
 -- what came back in slot s: the Inventory asks slot 0, each end of frame the next
 unfoldable pub slotOutcome : List ℕ → Family → ℕ → ℕ → ℕ → Outcome

@@ -1,9 +1,9 @@
 // The UIDs of the labels that take part, as numbers.
-use request::label::Family;
 use frame::number::number_at;
 use label::step::passing;
 use rack::file::count;
 use rack::file::length_of;
+use request::label::Family;
 ghost use mathlib.Core.Path.{_≡_};
 ghost use mathlib.Core.Bool.{_&&_};
 ghost use Prim.Native.Nat.{_+_, _≤_, _<_};

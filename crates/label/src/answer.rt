@@ -28,7 +28,7 @@ pub fn speaking(a: Answer) -> bool
 
 // 00, DSFID, UID.
 fn say_found(b: &[u8], out: &mut [u8]) -> usize
-    requires { ⌜ (32 ≤ length (now b)) × (64 ≤ length (now out)) ⌝ }
+    requires { ⌜ (32 ≤ length (now b)) × (12 ≤ length (now out)) ⌝ }
     ensures { λ r. ⌜ (r ≡ 12) × (now (out .exit) ≡ sets (now (out .entry)) 0 (answerFrame Answer.Found (now (b .entry)))) ⌝ }
 {
     out[0] = 0;
@@ -38,7 +38,7 @@ fn say_found(b: &[u8], out: &mut [u8]) -> usize
 
 // 00, 0F, UID, DSFID, AFI, blocks less 1, length less 1, IC reference.
 fn say_info(b: &[u8], out: &mut [u8]) -> usize
-    requires { ⌜ (32 ≤ length (now b)) × (64 ≤ length (now out)) ⌝ }
+    requires { ⌜ (32 ≤ length (now b)) × (17 ≤ length (now out)) ⌝ }
     ensures { λ r. ⌜ (r ≡ 17) × (now (out .exit) ≡ sets (now (out .entry)) 0 (answerFrame Answer.Info (now (b .entry)))) ⌝ }
 {
     out[0] = 0;
@@ -49,7 +49,8 @@ fn say_info(b: &[u8], out: &mut [u8]) -> usize
 
 // 00, the lock if it is asked for, the block.
 fn say_block(b: &[u8], n: u8, lock: bool, out: &mut [u8]) -> usize
-    requires { ⌜ Sized (now b) × ((getD (now b) 12 0 ≤ 31) × ((n ≤ getD (now b) 11 0) × (64 ≤ length (now out)))) ⌝ }
+    requires { ⌜ Sized (now b) × (n ≤ getD (now b) 11 0) ⌝ }
+    requires { ⌜ length (answerFrame (Answer.Block n lock) (now b)) ≤ length (now out) ⌝ }
     ensures { λ r. ⌜ (r ≡ length (answerFrame (Answer.Block n lock) (now (b .entry)))) × (now (out .exit) ≡ sets (now (out .entry)) 0 (answerFrame (Answer.Block n lock) (now (b .entry)))) ⌝ }
 {
     let size = b[12] as usize + 1;
@@ -64,7 +65,8 @@ fn say_block(b: &[u8], n: u8, lock: bool, out: &mut [u8]) -> usize
 
 // Writes the frame of an answer to the front of out, and returns its length.
 pub fn write_answer(a: Answer, b: &[u8], out: &mut [u8]) -> usize
-    requires { ⌜ Sized (now b) × ((getD (now b) 12 0 ≤ 31) × (Told a (now b) × (64 ≤ length (now out)))) ⌝ }
+    requires { ⌜ Sized (now b) × Told a (now b) ⌝ }
+    requires { ⌜ length (answerFrame a (now b)) ≤ length (now out) ⌝ }
     ensures { λ r. ⌜ (r ≡ length (answerFrame a (now (b .entry)))) × (now (out .exit) ≡ sets (now (out .entry)) 0 (answerFrame a (now (b .entry)))) ⌝ }
 {
     match a {

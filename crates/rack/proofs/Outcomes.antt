@@ -22,7 +22,7 @@ use Rattle.rack.specs.declared.tag.Said.{Said}
 use Rattle.rack.specs.declared.event.Report.{Report}
 use Rattle.rack.specs.File.{countOf, kindAt, lengthAt, offsetAt, startOf, bodyAt, verdictOf}
 use Rattle.rack.specs.Facts.{RackFine, Tellable, bodyOf}
-use Rattle.rack.specs.Event.{Event, carrying, aired, nextBody, frameOf, answer, answers, nextRack, opened, lengthAlone, Outcome, played, refusalOf, eventOf, Alone, HeardOf}
+use Rattle.rack.specs.Event.{Event, carrying, aired, nextBody, frameOf, answer, answers, nextRack, opened, lengthAlone, Outcome, played, least, refusalOf, eventOf, Alone, HeardOf}
 use Rattle.rack.proofs.Verdicts.{rack-fine}
 use Rattle.rack.proofs.Tags.{frame-same, frame-short, sayable-next}
 use Rattle.rack.proofs.Pass.{tag-fine}
@@ -44,11 +44,11 @@ module _ (r : List ℕ) (e draws room : ℕ) (v : Verdict) (q : v ≡ verdictOf 
     gives-2 h = rw (← q, ← m) (simp (eq-eqb _ _ a, ne-eqb _ _ h))
 
     module _ (b : draws ≡ n) where
-      pub gives-3 : room < 64 → 3 ≡ refusalOf r e draws room
+      pub gives-3 : room < least → 3 ≡ refusalOf r e draws room
       unfolding refusalOf
       gives-3 h = rw (← q, ← m) (simp (eq-eqb _ _ a, eq-eqb _ _ b, lt-ltb _ _ h))
 
-      module _ (d : 64 ≤ room) where
+      module _ (d : least ≤ room) where
         pub gives-4-low : e < 1 → 4 ≡ refusalOf r e draws room
         unfolding refusalOf
         gives-4-low h = rw (← q, ← m) (simp (eq-eqb _ _ a, eq-eqb _ _ b, le-ltb _ _ d, lt-leb _ _ h))
@@ -71,7 +71,7 @@ if-none false n m z e = (refl, e)
 pub record Playable (r : List ℕ) (e draws room : ℕ) : Type 0 where
   pub rack : RackFine r
   pub drawn : draws ≡ countOf r
-  pub space : 64 ≤ room
+  pub space : least ≤ room
   pub low : 1 ≤ e
   pub high : e ≤ 5
 
@@ -80,7 +80,7 @@ unfolding refusalOf
 playable r e draws room h =
     let a = if-none (not (eqb (verdictOf r .number) 0)) 1 _ (not-none 0) h in
     let b = if-none (not (eqb draws (countOf r))) 2 _ (not-none 1) (a .1) in
-    let d = if-none (ltb room 64) 3 _ (not-none 2) (b .1) in
+    let d = if-none (ltb room least) 3 _ (not-none 2) (b .1) in
     let n = if-none (not (leb 1 e && leb e 5)) 4 0 (not-none 3) (d .1) in
     let m = and-both (leb 1 e) (leb e 5) (not-false _ (n .0)) in
     record {
@@ -118,8 +118,12 @@ module _ (r : List ℕ) (s : Event) (ds : List ℕ) (ok : RackFine r) (w : ℕ) 
   frame-told =
       rw (body-told, alone .says) (frame-same (kindAt r w) s (getD ds w 0) (bodyAt r w) (tag-fine r ok w (alone .below)))
 
-  pub short-told : length (frameOf said (bodyAt r w)) ≤ 36
+  short-told : length (frameOf said (bodyAt r w)) ≤ 36
   short-told = rw (alone .says) (frame-short (kindAt r w) s (getD ds w 0) (bodyAt r w) (tag-fine r ok w (alone .below)))
+
+  -- its frame has room where an event is not refused
+  pub fits-told : {n : ℕ} → least ≤ n → length (frameOf said (bodyOf xs w)) ≤ n
+  fits-told h = rw frame-told (omega (arith, h, short-told))
 
   -- what the answer's writer needs of the next rack
   pub tellable : Tellable xs w said
@@ -172,5 +176,5 @@ module _ (r : List ℕ) (e : ℕ) (f ds out : List ℕ) where
         let told = frame-told r s ds (may .rack) w said xs (h .alone z) x in
         let one : gather (countOf r) (answer r s ds) ≡ frameOf said (bodyAt r w) ∷ [] = h .alone z .one in
         let fits : length (frameOf said (bodyAt r w)) ≤ length out =
-        omega (arith, short-told r s ds (may .rack) w said xs (h .alone z) x, may .space) in
+        rw told at (fits-told r s ds (may .rack) w said xs (h .alone z) x (may .space)) in
         rw (goes-on, one) (rw (le, told), (x, rw (oe, told) (sets-front (frameOf said (bodyAt r w)) out fits)))

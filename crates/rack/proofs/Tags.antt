@@ -189,7 +189,7 @@ module _ (k : ℕ) (e : Event) (d : ℕ) (b : List ℕ) (f : TagFine k b) where
           let q : getD c 12 0 ≡ getD b 12 0 = numbers-stay (e .signal .label) (e .bytes) b 12 (omega arith) (omega arith) in
           rw (next-label k t e d b, t) (
             sized-same b c (label-keeps.next-length (e .signal .label) (e .bytes) b) p q (label-fine.sized-of b z),
-            (omega (arith, q, label-fine.size-of b z), told-same _ b c p (label-answers.told-of (e .signal .label) (length (e .bytes)) b)),
+            told-same _ b c p (label-answers.told-of (e .signal .label) (length (e .bytes)) b),
           )
 
   -- and its frame fits in the answer buffer

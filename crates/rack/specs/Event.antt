@@ -98,12 +98,16 @@ played r e ds out =
       out = opened (answers r e ds) out;
     }
 
+-- the room that every answer buffer has
+abbrev pub least : ℕ
+least = 64
+
 -- the lowest number that applies, for so many draws and so much room in the answer buffer; 0: none
 unfoldable pub refusalOf : List ℕ → ℕ → ℕ → ℕ → ℕ
 refusalOf r e draws room =
     if not (eqb (verdictOf r .number) 0) then 1
     else if not (eqb draws (countOf r)) then 2
-    else if ltb room 64 then 3
+    else if ltb room least then 3
     else if not (leb 1 e && leb e 5) then 4
     else 0
 

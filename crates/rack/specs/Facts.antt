@@ -3,7 +3,7 @@ use mathlib.Core.Path.{_≡_}
 use mathlib.Core.Bool.{true}
 use mathlib.Core.List.{List}
 use Prim.Native.Nat.{ℕ, _+_, _≤_, _<_}
-use lib.ListN.{length, getD}
+use lib.ListN.{length}
 use Rattle.frame.specs.Judge.{fine}
 use Rattle.frame.specs.Number.{part}
 use Rattle.label.specs.Body.{Sized}
@@ -45,7 +45,7 @@ pub record TagFine (kind : ℕ) (b : List ℕ) : Type 0 where
 
 -- something that a body can say: what the answer's writer needs
 unfoldable pub Sayable : Said → List ℕ → Type 0
-Sayable (s.Label a) b = Sized b × ((getD b 12 0 ≤ 31) × Told a b)
+Sayable (s.Label a) b = Sized b × Told a b
 Sayable (s.Chip a) b = 80 ≤ length b
 
 -- body i where its entry says that it lies

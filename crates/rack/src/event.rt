@@ -112,7 +112,7 @@ fn refuse(rack: &[u8], number: u8, draws: usize, room: usize) -> u8
 
 // Tag i's frame opens the answer buffer.
 fn tell(rack: &[u8], i: usize, said: Said, answer: &mut [u8]) -> usize
-    requires { ⌜ Tellable (now rack) i said × (64 ≤ length (now answer)) ⌝ }
+    requires { ⌜ Tellable (now rack) i said × (length (frameOf said (bodyOf (now rack) i)) ≤ length (now answer)) ⌝ }
     ensures { λ r. ⌜ (r ≡ length (frameOf said (bodyOf (now (rack .entry)) i))) × (now (answer .exit) ≡ sets (now (answer .entry)) 0 (frameOf said (bodyOf (now (rack .entry)) i))) ⌝ }
 {
     let at = offset_of(rack, i);

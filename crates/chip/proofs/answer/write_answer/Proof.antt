@@ -8,7 +8,7 @@ use Rattle.frame.specs.Number.{part}
 use Rattle.frame.specs.CheckSum.{framed}
 use Rattle.chip.specs.Answer.{answerFrame}
 use Rattle.chip.proofs.Shapes.{place-fits}
-use Rattle.chip.proofs.Answers.{answered, framed-part, framed-one}
+use Rattle.chip.proofs.Answers.{answered, framed-part, framed-one, id-room, block-room, uid-room}
 use borrow.Author.Needs.{needs}
 use Rattle.chip.proofs.answer.write_answer.Statement.{statement}
 use Rattle.chip.proofs.answer.write_answer.Tie as tie
@@ -20,12 +20,12 @@ write-answer-spec =
     (tie.spec
     (λ c. search needs)
     (λ c. search needs)
-    (λ c κs. search needs)
+    (λ c κs. id-room _ _ _ (c .before .before .before .before .before .before .pre .1) _ (c .before .before .a .given .1))
     (λ c. search needs)
     (λ c κs. search needs)
-    (λ c κs. (omega (arith, c .before .place .ensures, place-fits (c .before .before .before .a2 .given .0 .0), c .before .before .before .before .before .before .before .pre .0), omega (arith, c .before .before .before .before .before .before .before .pre .1)))
+    (λ c κs. (omega (arith, c .before .place .ensures, place-fits (c .before .before .before .a2 .given .0 .0), c .before .before .before .before .before .before .before .pre .0), omega (arith, block-room _ _ _ (c .before .before .before .before .before .before .before .pre .1) _ (c .before .before .before .a2 .given .1) (c .before .before .before .before .before .before .before .pre .0))))
     (λ c. search needs)
-    (λ c κs. search needs)
+    (λ c κs. (omega (arith, c .before .before .before .before .before .pre .0), omega (arith, uid-room _ _ _ (c .before .before .before .before .before .pre .1) (c .before .enum-told2 .given .1) (c .before .before .before .before .before .pre .0))))
     (λ c. rw (c .enum-told .given .1) (refl, refl))
     (λ c. search needs)
     (λ c. let a = c .before .before .before .before .before .before .before .before .before .args in

@@ -3,30 +3,37 @@
 use mathlib.Core.Path.{refl, sym, _∙_}
 use mathlib.Core.Bool.{true}
 use mathlib.Core.List.{[], _∷_}
+use Prim.Native.Nat.{_≤_}
 use native.Mathlib.Omega.{arith}
 use denote.Ref.{now}
 use borrow.Author.Needs.{needs}
-use lib.ListN.{length-set}
+use lib.ListN.{length, length-set}
 use Rattle.label.specs.Answer.{Told, answerFrame}
 use Rattle.frame.proofs.Puts.{laid-seal}
 use Rattle.label.proofs.Room.{sized-long}
-use Rattle.label.proofs.Laying.{found-length, info-length}
+use Rattle.label.proofs.Laying.{found-length, info-length, error-room, done-room, found-room, info-room}
 use Rattle.label.proofs.answer.write_answer.Statement.{statement}
 use Rattle.label.proofs.answer.write_answer.Tie as tie
+
+-- the room of the two frames that are laid here
+error : (c : tie.After-known-told) → 4 ≤ length (now (c .before .before .before .before .before .args .out))
+error c = error-room _ _ _ (c .before .before .before .before .before .pre .1) _ (c .before .a .given .1)
+
+done : (c : tie.After-enum-told2) → 3 ≤ length (now (c .before .before .before .before .args .out))
+done c = done-room _ _ _ (c .before .before .before .before .pre .1) (c .enum-told2 .given .1)
 
 say-block-requires : tie.Need-say-block-requires
 unfolding answerFrame Told
 say-block-requires c κs =
     let s = c .before .before .before .before .before .before in
-    let t : Told (s .args .a) (now (s .args .b)) = s .pre .1 .1 .0 in
-    (s .pre .0, (s .pre .1 .0, (rw (c .before .before .a2 .given .1) at t, s .pre .1 .1 .1)))
+    rw (c .before .before .a2 .given .1) at (s .pre)
 
 returns-2 : tie.Need-returns-2
 unfolding answerFrame Told
 returns-2 c =
     let s = c .before .before .before .before .before .before .before .before .before in
     let old = now (s .args .out) in
-    let l = laid-seal 0xFFFF true {xs = 1 ∷ c .before .before .before .before .before .a .given .0 .0 ∷ []} {old = old} (record { long = refl; is = refl }) (omega (arith, s .pre .1 .1 .1)) (c .before .before .seal .ensures) in
+    let l = laid-seal 0xFFFF true {xs = 1 ∷ c .before .before .before .before .before .a .given .0 .0 ∷ []} {old = old} (record { long = refl; is = refl }) (omega (arith, error (c .before .before .before .before))) (c .before .before .seal .ensures) in
     rw (c .before .before .before .before .before .a .given .1) (l .long, l .is)
 
 returns-3 : tie.Need-returns-3
@@ -34,21 +41,21 @@ unfolding answerFrame Told
 returns-3 c =
     let s = c .before .before .before .before .before .before .before .before in
     let old = now (s .args .out) in
-    let l = laid-seal 0xFFFF true {xs = 0 ∷ []} {old = old} (record { long = refl; is = refl }) (omega (arith, s .pre .1 .1 .1)) (c .before .before .seal2 .ensures) in
+    let l = laid-seal 0xFFFF true {xs = 0 ∷ []} {old = old} (record { long = refl; is = refl }) (omega (arith, done (c .before .before .before .before))) (c .before .before .seal2 .ensures) in
     rw (c .before .before .before .before .enum-told2 .given .1) (l .long, l .is)
 
 returns-4 : tie.Need-returns-4
 unfolding answerFrame Told
 returns-4 c =
     let s = c .before .before .before .before .before .before .before .before in
-    let h = sized-long (now (s .args .b)) (s .pre .0) in
+    let h = sized-long (now (s .args .b)) (s .pre .0 .0) in
     rw (c .before .before .before .before .enum-told3 .given .1) (c .before .before .say-found .ensures .0 ∙ sym (found-length (now (s .args .b)) (omega (arith, h))), c .before .before .say-found .ensures .1)
 
 returns-6 : tie.Need-returns-6
 unfolding answerFrame Told
 returns-6 c =
     let s = c .before .before .before .before .before .before .before .before in
-    let h = sized-long (now (s .args .b)) (s .pre .0) in
+    let h = sized-long (now (s .args .b)) (s .pre .0 .0) in
     rw (c .before .before .before .before .enum-told4 .given .1) (c .before .before .say-info .ensures .0 ∙ sym (info-length (now (s .args .b)) (omega (arith, h))), c .before .before .say-info .ensures .1)
 
 pub write-answer-spec : {M : Type 1} → statement M
@@ -58,18 +65,22 @@ write-answer-spec =
     (tie.spec
     (λ c. search needs)
     (λ c. search needs)
+    (λ c. omega (arith, error c))
+    (λ c. simp length-set (omega (arith, error c)))
+    (λ c κs. simp length-set (omega (arith, error (c .before))))
     (λ c. search needs)
-    (λ c. simp length-set (omega arith))
-    (λ c κs. simp length-set (omega arith))
+    (λ c. omega (arith, done c))
+    (λ c κs. simp length-set (omega (arith, done (c .before))))
     (λ c. search needs)
-    (λ c. search needs)
-    (λ c κs. simp length-set (omega arith))
-    (λ c. search needs)
-    (λ c κs. (sized-long (now (c .before .before .before .before .before .args .b)) (c .before .before .before .before .before .pre .0), c .before .before .before .before .before .pre .1 .1 .1))
+    (λ c κs. let s = c .before .before .before .before .before in
+    let l = sized-long (now (s .args .b)) (s .pre .0 .0) in
+    (l, found-room _ _ _ (s .pre .1) (c .before .enum-told3 .given .1) l))
     (λ c. search needs)
     say-block-requires
     (λ c. search needs)
-    (λ c κs. (sized-long (now (c .before .before .before .before .before .args .b)) (c .before .before .before .before .before .pre .0), c .before .before .before .before .before .pre .1 .1 .1))
+    (λ c κs. let s = c .before .before .before .before .before in
+    let l = sized-long (now (s .args .b)) (s .pre .0 .0) in
+    (l, info-room _ _ _ (s .pre .1) (c .before .enum-told4 .given .1) l))
     (λ c. rw (c .enum-told .given .1) (refl, refl))
     (λ c. c .before .before .seal .kept .0 ∙ simp length-set)
     returns-2

@@ -5,7 +5,7 @@ use denote.Ref.{now}
 use borrow.Author.Needs.{needs}
 use lib.ListN.{length}
 use Rattle.rack.specs.Event.{refusalOf}
-use Rattle.rack.proofs.Outcomes.{Playable, playable, event-is, shows-refused, shows-silent, tellable, shows-alone}
+use Rattle.rack.proofs.Outcomes.{Playable, playable, event-is, shows-refused, shows-silent, tellable, fits-told, shows-alone}
 use Rattle.rack.proofs.event.event.Statement.{statement}
 use Rattle.rack.proofs.event.event.Tie as tie
 
@@ -35,7 +35,8 @@ tell-requires : tie.Need-tell-requires
 tell-requires c κs =
     let p = c .before .before .before .before .before .before .play in
     let m = may (c .before .before .before .before .before .before .before .before .before .before) in
-    (tellable _ _ _ (m .rack) _ _ _ (p .ensures .0 .alone (c .before .before .if2 .left)) (p .ensures .1), m .space)
+    let a = p .ensures .0 .alone (c .before .before .if2 .left) in
+    (tellable _ _ _ (m .rack) _ _ _ a (p .ensures .1), fits-told _ _ _ (m .rack) _ _ _ a (p .ensures .1) (m .space))
 
 returns-3 : tie.Need-returns-3
 returns-3 c =

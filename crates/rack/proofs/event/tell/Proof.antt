@@ -19,7 +19,7 @@ lent c =
     ∙ rw (c .before .offset-of .ensures, c .length-of .ensures .0)
 
 write-said-requires : tie.Need-write-said-requires
-write-said-requires c κs = (rw (lent (c .before .before)) (c .before .before .before .before .before .before .pre .0 .says), c .before .before .before .before .before .before .pre .1)
+write-said-requires c κs = rw (lent (c .before .before)) (c .before .before .before .before .before .before .pre .0 .says, c .before .before .before .before .before .before .pre .1)
 
 returns : tie.Need-returns
 returns c = rw (lent (c .before .before .before .before .before)) at (c .before .before .write-said .ensures)

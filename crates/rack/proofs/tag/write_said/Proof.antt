@@ -7,13 +7,11 @@ use Rattle.rack.proofs.tag.write_said.Statement.{statement}
 use Rattle.rack.proofs.tag.write_said.Tie as tie
 
 write-answer-requires : tie.Need-write-answer-requires
-unfolding Sayable
-write-answer-requires c κs =
-    let p = rw (c .before .before .said .given .1) at (c .before .before .before .before .before .before .pre) in
-    (p .0 .0, (p .0 .1 .0, (p .0 .1 .1, p .1)))
+unfolding Sayable frameOf
+write-answer-requires c κs = rw (c .before .before .said .given .1) at (c .before .before .before .before .before .before .pre)
 
 write-answer-requires-2 : tie.Need-write-answer-requires-2
-unfolding Sayable
+unfolding Sayable frameOf
 write-answer-requires-2 c κs = rw (c .before .before .said2 .given .1) at (c .before .before .before .before .before .before .pre)
 
 returns : tie.Need-returns
