@@ -1,49 +1,57 @@
--- Any tag's body through a round: a label's is `during`, a chip's stays. Idea: the kind is 1 or 2, and then each law is the label's or the chip's own. Assumes nothing.
-use mathlib.Core.Path.{_≡_, refl}
+-- Any tag's body through a round: a label's is `during`, any other stays. Idea: by the kind, each law is the label's own or that of a body that
+-- stays. Assumes nothing.
+use mathlib.Core.Path.{_≡_, refl, ap}
 use mathlib.Core.Bool.{Bool, true, false, _&&_}
 use mathlib.Core.List.{List, [], _∷_}
-use mathlib.Core.Logic.{_⊎_, ⊎-elim}
 use Prim.Native.Nat.{ℕ, suc, _^_, _≤_, _<_}
-use lib.Dec.{eqb}
 use lib.ListN.{length}
 use Rattle.frame.specs.Choose.{if_then_else_}
 use Rattle.frame.specs.Number.{part, Bytes}
 use Rattle.frame.specs.Ending.{endsInSlot}
-use Rattle.request.specs.Label.{bare}
+use Rattle.frame.specs.declared.verdict.Verdict.{Verdict}
 use Rattle.label.specs.Answer as label
 use Rattle.label.specs.Answer.{answerFrame}
 use Rattle.label.specs.Facts.{LabelFine}
-use Rattle.label.specs.Slots.{on, clear, during}
+use Rattle.label.specs.Slots.{takesPart, during}
 use Rattle.request.specs.declared.label.Family.{Family}
 use Rattle.request.specs.declared.label.Call.{Call}
 use Rattle.request.specs.declared.label.Call.the-variants.{Inventory, EndOfFrame}
 use Rattle.label.specs.declared.step.Answer.the-variants.{Silent, Found}
-use Rattle.label.proofs.Fine.{fine-rules}
-use Rattle.label.proofs.Slots.{first, step, last, said-first, said-step, during-fine, during-bytes, during-uid, during-length, clear-fine, clear-bytes, clear-uid, clear-length, clear-clear, on-clear}
+use Rattle.label.proofs.Fine.{rules-fine, fine-rules}
+use Rattle.label.proofs.Slots.{first, step, last, said-first, said-step, during-fine, during-bytes, during-uid, during-length}
+use Rattle.label.proofs.Slots.{clear-fine, clear-bytes, clear-uid, clear-length, clear-clear, takes-clear}
+use Rattle.rack.specs.declared.tag.Kind.{Kind}
+use Rattle.rack.specs.declared.tag.Kind.the-variants.{Label, Chip, Other}
 use Rattle.rack.specs.File.{bodyRules}
 use Rattle.rack.specs.Event.{Event, carrying, nextBody, saidBy, speaks, frameOf, answerBody}
 use Rattle.inventory.proofs.Sent.{signal}
 use Rattle.inventory.specs.Walk.{uidAt, clearBody}
 use Rattle.inventory.proofs.Says.{ignored, ignored-said}
 
--- a tag of a well-formed rack
-pub record TagOk (k : ℕ) (b : List ℕ) : Type 0 where
-  pub kind : (k ≡ 1) ⊎ (k ≡ 2)
+-- a body of a well-formed rack
+pub record TagOk (kind : Kind) (b : List ℕ) : Type 0 where
   pub small : Bytes b
-  pub label : k ≡ 1 → LabelFine b
-  pub rules : bodyRules k b .number ≡ 0
+  pub rules : bodyRules kind b .number ≡ 0
+
+label-ok : {b : List ℕ} → TagOk Label b → LabelFine b
+unfolding bodyRules
+label-ok {b} ok = rules-fine b (ok .small) (ok .rules)
 
 -- an event that no chip heeds
 abbrev pub eventWith : List ℕ → Call → Event
 eventWith bytes call = carrying (signal call) bytes
 
 -- its body in slot s
-unfoldable pub duringBody : Family → ℕ → ℕ → ℕ → ℕ → List ℕ → List ℕ
-duringBody family m e s k b = if eqb k 1 then during family m e s b else b
+unfoldable pub duringBody : Family → ℕ → ℕ → ℕ → Kind → List ℕ → List ℕ
+duringBody family bits mask s Label b = during family bits mask s b
+duringBody family bits mask s Chip b = b
+duringBody family bits mask s Other b = b
 
 -- it answers in slot s
-abbrev pub called : Family → ℕ → ℕ → ℕ → ℕ → List ℕ → Bool
-called family m e s k b = eqb k 1 && (on family b && endsInSlot (part 0 8 b) e m s)
+unfoldable pub called : Family → ℕ → ℕ → ℕ → Kind → List ℕ → Bool
+called family bits mask s Label b = takesPart family b && endsInSlot (part 0 8 b) mask bits s
+called family bits mask s Chip b = false
+called family bits mask s Other b = false
 
 -- what it then says
 abbrev pub spoken : Bool → List ℕ → List (List ℕ)
@@ -54,101 +62,101 @@ said : (q : Bool) (b : List ℕ)
 said true b = refl
 said false b = refl
 
-module _ {k : ℕ} {b : List ℕ} (ok : TagOk k b) (family : Family) (m e : ℕ) where
-  pub body-first : (bytes : List ℕ) (d : ℕ) → nextBody k (eventWith bytes (Inventory family true m e)) d b ≡ duringBody family m e 0 k b
-  unfolding nextBody duringBody
-  body-first bytes d =
-      ⊎-elim
-      (λ (q : k ≡ 1). rw q (first family m e bytes b (ok .small) (ok .label q)))
-      (λ (q : k ≡ 2). rw q (ignored d b))
-      (ok .kind)
+-- ---- the Inventory
 
-  pub body-step : (bytes : List ℕ) (d s : ℕ) → m ≤ 60 → e < 2 ^ m → s < 15 → nextBody k (eventWith bytes EndOfFrame) d (duringBody family m e s k b) ≡ duringBody family m e (suc s) k b
-  unfolding nextBody duringBody
-  body-step bytes d s short low h =
-      ⊎-elim
-      (λ (q : k ≡ 1). rw q (step family m e b (ok .label q) short low s bytes h))
-      (λ (q : k ≡ 2). rw q (ignored d b))
-      (ok .kind)
+pub body-first : {kind : Kind} {b : List ℕ} → TagOk kind b → (family : Family) (bits mask : ℕ) (bytes : List ℕ) (d : ℕ)
+    → nextBody kind (eventWith bytes (Inventory family true bits mask)) d b ≡ duringBody family bits mask 0 kind b
+unfolding nextBody duringBody
+body-first {kind = Label} {b} ok family bits mask bytes d = first family bits mask bytes b (ok .small) (label-ok ok)
+body-first {kind = Chip} {b} ok family bits mask bytes d = ignored d b
+body-first {kind = Other} {b} ok family bits mask bytes d = refl
 
-  pub body-last : (bytes : List ℕ) (d : ℕ) → m ≤ 60 → e < 2 ^ m → nextBody k (eventWith bytes EndOfFrame) d (duringBody family m e 15 k b) ≡ clearBody k b
-  unfolding nextBody duringBody clearBody
-  body-last bytes d short low =
-      ⊎-elim
-      (λ (q : k ≡ 1). rw q (last family m e b (ok .label q) short low bytes))
-      (λ (q : k ≡ 2). rw q (ignored d b))
-      (ok .kind)
+pub answer-first : (kind : Kind) (b : List ℕ) (family : Family) (bits mask : ℕ) (bytes : List ℕ) (d : ℕ)
+    → answerBody kind (eventWith bytes (Inventory family true bits mask)) d b ≡ spoken (called family bits mask 0 kind b) b
+unfolding answerBody saidBy speaks frameOf called
+answer-first Label b family bits mask bytes d =
+    rw (said-first family bits mask (length bytes) b) (said (takesPart family b && endsInSlot (part 0 8 b) mask bits 0) b)
+answer-first Chip b family bits mask bytes d = rw (ignored-said d b)
+answer-first Other b family bits mask bytes d = refl
 
-  pub answer-first : (bytes : List ℕ) (d : ℕ) → answerBody k (eventWith bytes (Inventory family true m e)) d b ≡ spoken (called family m e 0 k b) b
-  unfolding answerBody saidBy speaks frameOf
-  answer-first bytes d =
-      ⊎-elim
-      (λ (q : k ≡ 1). rw (q, said-first family m e (length bytes) b) (said (on family b && endsInSlot (part 0 8 b) e m 0) b))
-      (λ (q : k ≡ 2). rw (q, ignored-said d b))
-      (ok .kind)
+-- ---- an end of frame
 
-  pub answer-step : (bytes : List ℕ) (d s : ℕ) → m ≤ 60 → e < 2 ^ m → s < 15
-      → answerBody k (eventWith bytes EndOfFrame) d (duringBody family m e s k b) ≡ spoken (called family m e (suc s) k b) (duringBody family m e s k b)
-  unfolding answerBody saidBy speaks frameOf duringBody
-  answer-step bytes d s short low h =
-      ⊎-elim
-      (λ (q : k ≡ 1).
-      rw (q, said-step family m e b (ok .label q) short low s (length bytes) h)
-      (said (on family b && endsInSlot (part 0 8 b) e m (suc s)) (during family m e s b)))
-      (λ (q : k ≡ 2). rw (q, ignored-said d b))
-      (ok .kind)
+pub body-step : {kind : Kind} {b : List ℕ} → TagOk kind b → (family : Family) (bits mask : ℕ) (bytes : List ℕ) (d s : ℕ)
+    → bits ≤ 60 → mask < 2 ^ bits → s < 15
+    → nextBody kind (eventWith bytes EndOfFrame) d (duringBody family bits mask s kind b) ≡ duringBody family bits mask (suc s) kind b
+unfolding nextBody duringBody
+body-step {kind = Label} {b} ok family bits mask bytes d s short low h = step family bits mask b (label-ok ok) short low s bytes h
+body-step {kind = Chip} {b} ok family bits mask bytes d s short low h = ignored d b
+body-step {kind = Other} {b} ok family bits mask bytes d s short low h = refl
 
-  pub during-size : (s : ℕ) → length (duringBody family m e s k b) ≡ length b
-  unfolding duringBody
-  during-size s =
-      ⊎-elim
-      (λ (q : k ≡ 1). rw q (during-length family m e s b))
-      (λ (q : k ≡ 2). rw q refl)
-      (ok .kind)
+pub body-last : {kind : Kind} {b : List ℕ} → TagOk kind b → (family : Family) (bits mask : ℕ) (bytes : List ℕ) (d : ℕ)
+    → bits ≤ 60 → mask < 2 ^ bits → nextBody kind (eventWith bytes EndOfFrame) d (duringBody family bits mask 15 kind b) ≡ clearBody kind b
+unfolding nextBody duringBody clearBody
+body-last {kind = Label} {b} ok family bits mask bytes d short low = last family bits mask b (label-ok ok) short low bytes
+body-last {kind = Chip} {b} ok family bits mask bytes d short low = ignored d b
+body-last {kind = Other} {b} ok family bits mask bytes d short low = refl
 
-  pub during-part : (s : ℕ) → part 0 8 (duringBody family m e s k b) ≡ part 0 8 b
-  unfolding duringBody
-  during-part s =
-      ⊎-elim
-      (λ (q : k ≡ 1). rw q (during-uid family m e s b))
-      (λ (q : k ≡ 2). rw q refl)
-      (ok .kind)
+pub answer-step : {kind : Kind} {b : List ℕ} → TagOk kind b → (family : Family) (bits mask : ℕ) (bytes : List ℕ) (d s : ℕ)
+    → bits ≤ 60 → mask < 2 ^ bits → s < 15
+    → answerBody kind (eventWith bytes EndOfFrame) d (duringBody family bits mask s kind b)
+    ≡ spoken (called family bits mask (suc s) kind b) (duringBody family bits mask s kind b)
+unfolding answerBody saidBy speaks frameOf duringBody called
+answer-step {kind = Label} {b} ok family bits mask bytes d s short low h =
+    rw (said-step family bits mask b (label-ok ok) short low s (length bytes) h)
+    (said (takesPart family b && endsInSlot (part 0 8 b) mask bits (suc s)) (during family bits mask s b))
+answer-step {kind = Chip} {b} ok family bits mask bytes d s short low h = rw (ignored-said d b)
+answer-step {kind = Other} {b} ok family bits mask bytes d s short low h = refl
 
-  pub during-rules : (s : ℕ) → m ≤ 60 → e < 2 ^ m → s ≤ 15 → bodyRules k (duringBody family m e s k b) .number ≡ 0
-  unfolding duringBody bodyRules
-  during-rules s short low h =
-      ⊎-elim
-      (λ (q : k ≡ 1).
-      rw (q, fine-rules (during family m e s b) (during-bytes family m e s b (ok .small) short h) (during-fine family m e s b (ok .small) (ok .label q) short low h)) refl)
-      (λ (q : k ≡ 2). let z = ok .rules in rw q (rw q at z))
-      (ok .kind)
+-- ---- a body in slot s
+
+pub during-size : (family : Family) (bits mask s : ℕ) (kind : Kind) (b : List ℕ) → length (duringBody family bits mask s kind b) ≡ length b
+unfolding duringBody
+during-size family bits mask s Label b = during-length family bits mask s b
+during-size family bits mask s Chip b = refl
+during-size family bits mask s Other b = refl
+
+pub during-part : (family : Family) (bits mask s : ℕ) (kind : Kind) (b : List ℕ) → part 0 8 (duringBody family bits mask s kind b) ≡ part 0 8 b
+unfolding duringBody
+during-part family bits mask s Label b = during-uid family bits mask s b
+during-part family bits mask s Chip b = refl
+during-part family bits mask s Other b = refl
+
+label-rules : {b : List ℕ} → Bytes b → LabelFine b → bodyRules Label b .number ≡ 0
+unfolding bodyRules
+label-rules {b} small ok = ap (λ (v : Verdict). v .number) (fine-rules b small ok)
+
+pub during-rules : {kind : Kind} {b : List ℕ} → TagOk kind b → (family : Family) (bits mask s : ℕ) → bits ≤ 60 → mask < 2 ^ bits → s ≤ 15
+    → bodyRules kind (duringBody family bits mask s kind b) .number ≡ 0
+unfolding duringBody
+during-rules {kind = Label} {b} ok family bits mask s short low h =
+    label-rules (during-bytes family bits mask s b (ok .small) short h) (during-fine family bits mask s b (ok .small) (label-ok ok) short low h)
+during-rules {kind = Chip} {b} ok family bits mask s short low h = ok .rules
+during-rules {kind = Other} {b} ok family bits mask s short low h = ok .rules
 
 -- ---- cleared
 
-module _ {k : ℕ} {b : List ℕ} (ok : TagOk k b) where
-  pub clear-size : length (clearBody k b) ≡ length b
-  unfolding clearBody
-  clear-size = ⊎-elim (λ (q : k ≡ 1). rw q (clear-length b)) (λ (q : k ≡ 2). rw q refl) (ok .kind)
+pub clear-size : (kind : Kind) (b : List ℕ) → length (clearBody kind b) ≡ length b
+unfolding clearBody
+clear-size Label b = clear-length b
+clear-size Chip b = refl
+clear-size Other b = refl
 
-  pub clear-twice : clearBody k (clearBody k b) ≡ clearBody k b
-  unfolding clearBody
-  clear-twice = ⊎-elim (λ (q : k ≡ 1). rw q (clear-clear b)) (λ (q : k ≡ 2). rw q refl) (ok .kind)
+pub clear-twice : (kind : Kind) (b : List ℕ) → clearBody kind (clearBody kind b) ≡ clearBody kind b
+unfolding clearBody
+clear-twice Label b = clear-clear b
+clear-twice Chip b = refl
+clear-twice Other b = refl
 
-  pub clear-uidAt : (family : Family) → uidAt family k (clearBody k b) ≡ uidAt family k b
-  unfolding clearBody uidAt
-  clear-uidAt family =
-      ⊎-elim
-      (λ (q : k ≡ 1). rw (q, on-clear family b, clear-uid b) refl)
-      (λ (q : k ≡ 2). rw q refl)
-      (ok .kind)
+pub clear-uidAt : (family : Family) (kind : Kind) (b : List ℕ) → uidAt family kind (clearBody kind b) ≡ uidAt family kind b
+unfolding clearBody uidAt
+clear-uidAt family Label b = rw (takes-clear family b, clear-uid b) refl
+clear-uidAt family Chip b = refl
+clear-uidAt family Other b = refl
 
-  pub clear-ok : TagOk k (clearBody k b)
-  unfolding clearBody bodyRules
-  clear-ok =
-      ⊎-elim
-      (λ (q : k ≡ 1).
-      let f = clear-fine b (ok .small) (ok .label q) in
-      let y = clear-bytes b (ok .small) in
-      rw q (record { kind = rw q at (ok .kind); small = y; label = λ z. f; rules = rw (fine-rules (clear b) y f) refl }))
-      (λ (q : k ≡ 2). let z = ok in rw q (rw q at z))
-      (ok .kind)
+pub clear-ok : {kind : Kind} {b : List ℕ} → TagOk kind b → TagOk kind (clearBody kind b)
+unfolding clearBody
+clear-ok {kind = Label} {b} ok =
+    let small = clear-bytes b (ok .small) in
+    record { small = small; rules = label-rules small (clear-fine b (ok .small) (label-ok ok)) }
+clear-ok {kind = Chip} {b} ok = ok
+clear-ok {kind = Other} {b} ok = ok

@@ -1,5 +1,5 @@
--- From the walk as events sent to a rack of bytes to the walk on UIDs: explore is listing and rounds. Idea: three facts of a round (the rack left, who is hit, what is listed)
--- and every rack on the way is the first one or the cleared one. Assumes nothing.
+-- From the walk as events sent to a rack of bytes to the walk on UIDs: explore is listing and rounds. Idea: three facts of a round (the rack left,
+-- who is hit, what is listed) and every rack on the way is the first one or the cleared one. Assumes nothing.
 use mathlib.Core.Path.{_≡_, refl, ap, sym, _∙_}
 use mathlib.Core.Bool.{Bool, true, false}
 use mathlib.Core.List.{List, [], _++_, append-nil}
@@ -23,7 +23,7 @@ use Rattle.inventory.proofs.Flat.{flat-append, flat-none, flat-gather}
 use Rattle.inventory.proofs.Events.{Fine}
 use Rattle.inventory.proofs.Rounds.{left-rack}
 use Rattle.inventory.proofs.Uids.{heard-count, heard-alone}
-use Rattle.inventory.proofs.Left.{cleared-fine, cleared-uids, cleared-twice}
+use Rattle.inventory.proofs.Clears.{cleared-fine, cleared-uids, cleared-twice}
 
 pub ifs-none : (n : ℕ) (b : ℕ → Bool) → gather n (λ s. ifs (b s) []) ≡ []
 unfolding gather

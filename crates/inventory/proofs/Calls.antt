@@ -19,7 +19,7 @@ use Rattle.inventory.specs.declared.walk.Walked.{Walked}
 use Rattle.inventory.specs.Walk.{explore, depth, uids, twins, refusalOf, walkOf, cleared}
 use Rattle.inventory.specs.Numbers.{First, repeated, listOf, roundsOf}
 use Rattle.inventory.specs.Promise.{flat, Promise}
-use Rattle.inventory.proofs.Left.{uids-few}
+use Rattle.inventory.proofs.Uids.{uids-few}
 use Rattle.rack.proofs.Verdicts.{rack-fine}
 use Rattle.inventory.proofs.Repeated.{twins-repeated, twins-none}
 use Rattle.inventory.proofs.Promise.{Accepted, accepted, Done, done, walk-carried, walk-refused, replies}

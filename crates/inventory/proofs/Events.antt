@@ -1,19 +1,16 @@
 -- An event of a walk sent to a well-formed rack is played, without its frame. Idea: no refusal applies, and the signal of an Inventory frame is the walk's own
 -- but for bytes that only a write reads. Assumes nothing.
 use mathlib.Core.Path.{_≡_, refl, ap, sym, _∙_}
-use mathlib.Core.Bool.{Bool, true, false, not, _&&_, _||_}
+use mathlib.Core.Bool.{true, _&&_}
 use mathlib.Core.List.{List, []}
-use mathlib.Core.Logic.{_⊎_, inl, inr}
-use Prim.Native.Nat.{ℕ, _+_, _^_, _≤_, _<_}
+use Prim.Native.Nat.{ℕ, _^_, _≤_, _<_}
 use native.Mathlib.Omega.{arith}
-use borrow.Author.Tests.{eq-eqb, eqb-true}
-use lib.Dec.{eqb, ltb, leb}
+use borrow.Author.Tests.{eq-eqb}
+use lib.Dec.{leb}
 use lib.ListN.{length, getD, length-replicate}
 use Rattle.frame.specs.Choose.{gather}
 use Rattle.frame.specs.Number.{Bytes}
-use Rattle.frame.specs.declared.verdict.Verdict.{Verdict}
 use Rattle.frame.proofs.Numbers.{bytes-part}
-use Rattle.frame.proofs.Verdicts.{if-fine, not-none}
 use Rattle.request.specs.Label as labels
 use Rattle.request.specs.Label.{bare}
 use Rattle.request.specs.declared.label.Family.{Family}
@@ -21,18 +18,19 @@ use Rattle.request.specs.declared.label.Family.the-variants.{Any, Only}
 use Rattle.request.specs.declared.label.Call.{Call}
 use Rattle.request.specs.declared.label.Call.the-variants.{Inventory, EndOfFrame}
 use Rattle.request.specs.Chip as chips
-use Rattle.rack.specs.File.{countOf, entryAt, kindAt, lengthAt, startOf, bodyAt, rebuilt, lengthFits, entryVerdict, bodyRules}
+use Rattle.rack.specs.declared.tag.Kind.{Kind}
+use Rattle.rack.specs.declared.tag.Kind.the-variants.{Label, Chip, Other}
+use Rattle.rack.specs.File.{countOf, kindAt, lengthAt, startOf, bodyAt, rebuilt, lengthFits, bodyRules}
 use Rattle.rack.specs.Facts.{RackFine}
 use Rattle.rack.specs.Event.{Event, Outcome, aired, next, answer, nextRack, answers, played, refusalOf, eventOf}
 use Rattle.inventory.specs.Walk.{request, blank, sent}
 use Rattle.inventory.proofs.Sent.{event, draws}
-use Rattle.label.proofs.Fine.{rules-fine}
 use Rattle.request.proofs.Back.{sixteen-back, sixteen-afi-back}
 use Rattle.rack.proofs.Places.{gather-ext}
 use Rattle.rack.proofs.Rebuilt.{rebuilt-ext}
+use Rattle.rack.proofs.Rebuilt as rebuilt
 use Rattle.rack.proofs.Verdicts.{fine-rack}
-use Rattle.rack.proofs.Tags.{fits-chip, fits-label}
-use Rattle.rack.proofs.Closed as closed
+use Rattle.rack.proofs.Tags.{fits-label, fits-chip, fits-none}
 use Rattle.inventory.proofs.Bodies.{TagOk, eventWith, duringBody, called, spoken, body-first, answer-first}
 
 -- a rack of bytes that keeps its rules
@@ -42,44 +40,23 @@ pub record Fine (r : List ℕ) : Type 0 where
 
 -- ---- its tags
 
-two-kinds : (k : ℕ) → not (eqb k 1 || eqb k 2) ≡ false → (k ≡ 1) ⊎ (k ≡ 2)
-two-kinds k h = go (eqb k 1) refl (eqb k 2) refl h
-  where
-    go : (p : Bool) → eqb k 1 ≡ p → (q : Bool) → eqb k 2 ≡ q → not (p || q) ≡ false → (k ≡ 1) ⊎ (k ≡ 2)
-    go true e q f z = inl (eqb-true k 1 e)
-    go false e true f z = inr (eqb-true k 2 f)
-    go false e false f z = absurd (let x : _≡_ {A = ℕ} 0 1 = cc in omega arith)
-
-kind-of : (r : List ℕ) → RackFine r → (i : ℕ) → i < countOf r → (kindAt r i ≡ 1) ⊎ (kindAt r i ≡ 2)
-unfolding entryVerdict
-kind-of r ok i h =
-    let e = ap (λ (v : Verdict). v .number) (ok .entry i h .isFine) in
-    let t = if-fine (ltb (length r) (entryAt i + 8)) 10 (length r) _ (not-none 9) e in
-    two-kinds (kindAt r i) (if-fine (not (eqb (kindAt r i) 1 || eqb (kindAt r i) 2)) 12 (entryAt i) _ (not-none 11) (t .1) .0)
-
-fits-long : (k len : ℕ) → lengthFits k len ≡ true → 34 ≤ len
-fits-long k len h = go (eqb k 2) refl
-  where
-    go : (q : Bool) → eqb k 2 ≡ q → 34 ≤ len
-    go true t = omega (arith, fits-chip k len t h)
-    go false t = fits-label k len t h .0
+fits-long : (kind : Kind) (len : ℕ) → lengthFits kind len ≡ true → 34 ≤ len
+fits-long Label len h = fits-label len h .0
+fits-long Chip len h = omega (arith, fits-chip len h)
+fits-long Other len h = absurd (fits-none len h)
 
 -- a body holds a label's first bytes
 pub tag-long : (r : List ℕ) → RackFine r → (i : ℕ) → i < countOf r → 34 ≤ lengthAt r i
 tag-long r ok i h = fits-long (kindAt r i) (lengthAt r i) (ok .entry i h .fits)
 
 pub tag : (r : List ℕ) → Fine r → (i : ℕ) → i < countOf r → TagOk (kindAt r i) (bodyAt r i)
-unfolding bodyRules
-tag r ok i h =
-    let small = bytes-part (startOf r i) (lengthAt r i) r (ok .bytes) in
-    let rules = ok .rack .body i h .rules in
-    record { kind = kind-of r (ok .rack) i h; small = small; label = λ q. rules-fine (bodyAt r i) small (rw q at rules); rules = rules }
+tag r ok i h = record { small = bytes-part (startOf r i) (lengthAt r i) r (ok .bytes); rules = ok .rack .body i h .rules }
 
 -- other bodies of the same lengths that keep their rules
 pub rebuilt-fine : (r : List ℕ) (g : ℕ → List ℕ) → RackFine r
     → ((i : ℕ) → i < countOf r → (length (g i) ≡ lengthAt r i) × (bodyRules (kindAt r i) (g i) .number ≡ 0)) → RackFine (rebuilt r g)
 rebuilt-fine r g ok h =
-    closed.rebuilt-fine r g ok (λ i b. h i b .0) (λ i b. record { fits = rw (h i b .0) (ok .entry i b .fits); rules = h i b .1 })
+    rebuilt.rebuilt-fine r g ok (λ i b. h i b .0) (λ i b. record { fits = rw (h i b .0) (ok .entry i b .fits); rules = h i b .1 })
 
 -- ---- no refusal applies
 
@@ -116,14 +93,16 @@ played-same : (r : List ℕ) (x y : Event) (ds out : List ℕ) → answers r x d
 played-same r x y ds out p q = rw (p, q) refl
 
 module _ (r : List ℕ) (ok : Fine r) (family : Family) (m e : ℕ) where
-  pub next-first : (bytes ds : List ℕ) → nextRack r (eventWith bytes (Inventory family true m e)) ds ≡ rebuilt r (λ i. duringBody family m e 0 (kindAt r i) (bodyAt r i))
+  pub next-first : (bytes ds : List ℕ)
+      → nextRack r (eventWith bytes (Inventory family true m e)) ds ≡ rebuilt r (λ i. duringBody family m e 0 (kindAt r i) (bodyAt r i))
   unfolding nextRack next
   next-first bytes ds = rebuilt-ext r _ _ (λ i h. body-first (tag r ok i h) family m e bytes (getD ds i 0))
 
   pub answers-first : (bytes ds : List ℕ)
-      → answers r (eventWith bytes (Inventory family true m e)) ds ≡ gather (countOf r) (λ i. spoken (called family m e 0 (kindAt r i) (bodyAt r i)) (bodyAt r i))
+      → answers r (eventWith bytes (Inventory family true m e)) ds
+      ≡ gather (countOf r) (λ i. spoken (called family m e 0 (kindAt r i) (bodyAt r i)) (bodyAt r i))
   unfolding answers answer
-  answers-first bytes ds = gather-ext (countOf r) _ _ (λ i h. answer-first (tag r ok i h) family m e bytes (getD ds i 0))
+  answers-first bytes ds = gather-ext (countOf r) _ _ (λ i h. answer-first (kindAt r i) (bodyAt r i) family m e bytes (getD ds i 0))
 
   pub opens : m ≤ 60 → e < 2 ^ m → sent r 3 (request family m e) ≡ told r (Inventory family true m e)
   opens short low =

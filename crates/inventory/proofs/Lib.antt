@@ -11,7 +11,7 @@ pub mod Says
 pub mod Events
 pub mod Rounds
 pub mod Uids
-pub mod Left
+pub mod Clears
 pub mod Bridge
 pub mod Repeated
 pub mod Promise
@@ -19,7 +19,6 @@ pub mod Slots
 pub mod Sorts
 pub mod Listed
 pub mod Gathered
-pub mod Clears
 pub mod Branches
 pub mod Calls
 pub mod Marked

@@ -18,11 +18,11 @@ use Rattle.chip.specs.Write.{written, countDown, lockDown, reloads, locked}
 use Rattle.frame.proofs.Bools.{and-both}
 use Rattle.label.specs.Locks.{lockRoom, locksVerdict}
 use Rattle.label.specs.Body.{headRules, slotRules, over, maskVerdict, labelRules}
-use Rattle.label.specs.Slots.{on}
+use Rattle.label.specs.Slots.{takesPart}
 use Rattle.label.specs.Step.{passes}
 use Rattle.request.specs.declared.label.Family.{Family}
 use Rattle.request.specs.declared.label.Family.the-variants.{Any}
-use Rattle.rack.specs.File.{startOf, headVerdict, lengthFits, entryVerdict, bodyRules, moved, bodyVerdict, endVerdict, verdictOf}
+use Rattle.rack.specs.File.{startOf, kindOf, headVerdict, lengthFits, entryVerdict, bodyRules, moved, bodyVerdict, endVerdict, verdictOf}
 use Rattle.inventory.specs.Endings.{count, keepIf, keep, different, ending, sumTo, shared}
 use Rattle.inventory.specs.Walk.{uidAt, uidsTo, uids, anyOf, twins, refusalOf, walkOf}
 use Rattle.inventory.proofs.Sums.{sum-ext}
@@ -64,14 +64,16 @@ top-four u v e = ap (λ (n : ℕ). 1 + n) (sum-ext 15 _ (λ i. 1) (λ i h. one-s
 -- ---- on racks
 
 -- what a walk that is not refused counts
-counted : (r : List ℕ) → Bytes r → (family : Family) (list : List ℕ) → refusalOf r (length list) ≡ 0 → walkOf r family list .report .rounds ≡ byEndings (uids family r)
+counted : (r : List ℕ) → Bytes r → (family : Family) (list : List ℕ) → refusalOf r (length list) ≡ 0
+    → walkOf r family list .report .rounds ≡ byEndings (uids family r)
 counted r small family list h = promise r small family list (ap (λ x. x .report .number) (walk-carried r family list h)) .counts
 
-pub walk-k : (r : List ℕ) → Bytes r → (family : Family) (list : List ℕ) → refusalOf r (length list) ≡ 0 → (u v : ℕ) → uids family r ≡ u ∷ v ∷ [] → ending 60 u ≡ ending 60 v
-    → walkOf r family list .report .rounds ≡ 16
+pub walk-k : (r : List ℕ) → Bytes r → (family : Family) (list : List ℕ) → refusalOf r (length list) ≡ 0
+    → (u v : ℕ) → uids family r ≡ u ∷ v ∷ [] → ending 60 u ≡ ending 60 v → walkOf r family list .report .rounds ≡ 16
 walk-k r small family list h u v e t = counted r small family list h ∙ ap byEndings e ∙ top-four u v t
 
-pub walk-l : (r : List ℕ) → Bytes r → (family : Family) (list : List ℕ) → refusalOf r (length list) ≡ 0 → uids family r ≡ [] → walkOf r family list .report .rounds ≡ 1
+pub walk-l : (r : List ℕ) → Bytes r → (family : Family) (list : List ℕ) → refusalOf r (length list) ≡ 0 → uids family r ≡ []
+    → walkOf r family list .report .rounds ≡ 1
 walk-l r small family list h e = counted r small family list h ∙ ap byEndings e
 
 -- a rack of two such labels, each with one block of one byte, and a rack of no tag
@@ -85,11 +87,12 @@ abbrev rack-k : List ℕ
 rack-k = (1 ∷ 2 ∷ []) ++ entry 18 ++ entry 52 ++ label 0xE0 ++ label 0xD0
 
 pub uids-k : uids Any rack-k ≡ 0xE000000000000011 ∷ 0xD000000000000011 ∷ []
-unfolding uidsTo uidAt on passes gather startOf
+unfolding uidsTo uidAt takesPart passes kindOf gather startOf
 uids-k = refl
 
 pub accepts-k : refusalOf rack-k 16 ≡ 0
-unfolding refusalOf verdictOf headVerdict entryVerdict lengthFits bodyVerdict bodyRules moved endVerdict labelRules headRules lockRoom locksVerdict slotRules maskVerdict over byteVerdict firstOf twins anyOf uidsTo uidAt on passes gather startOf
+unfolding refusalOf verdictOf headVerdict entryVerdict kindOf lengthFits bodyVerdict bodyRules moved endVerdict labelRules headRules lockRoom
+    locksVerdict slotRules maskVerdict over byteVerdict firstOf twins anyOf uidsTo uidAt takesPart passes gather startOf
 accepts-k = refl
 
 abbrev rack-l : List ℕ

@@ -1,5 +1,5 @@
--- Demand 3 for a rack of bytes: what the walk lists, how many rounds it takes, and the rack it leaves; and that the statement leaves one reply. Idea: `told` at the empty mask,
--- then the counting theorem at four bits a round. Assumes nothing.
+-- Demand 3 for a rack of bytes: what the walk lists, how many rounds it takes, and the rack it leaves; and that the statement leaves one reply.
+-- Idea: `told` at the empty mask, then the counting theorem at four bits a round. Assumes nothing.
 use mathlib.Core.Path.{_≡_, refl, ap, sym, _∙_}
 use mathlib.Core.Bool.{Bool, true, false, not}
 use mathlib.Core.List.{List}
@@ -25,7 +25,7 @@ use Rattle.inventory.proofs.Walks.{all-end, listing, lists-each, as-lon
 use Rattle.inventory.proofs.Flat.{flat-length}
 use Rattle.rack.proofs.Verdicts.{rack-fine}
 use Rattle.inventory.proofs.Events.{Fine}
-use Rattle.inventory.proofs.Left.{uids-below, some-distinct}
+use Rattle.inventory.proofs.Uids.{uids-below, some-distinct}
 use Rattle.inventory.proofs.Bridge.{branch-list, branch-rounds, told, start-good, cleared-good}
 use Rattle.inventory.proofs.Repeated.{twins-none}
 
@@ -85,15 +85,18 @@ unfolding walkOf
 walk-number r family list = go (eqb (refusalOf r (length list)) 0) refl
   where
     go : (q : Bool) → eqb (refusalOf r (length list)) 0 ≡ q
-        → (if q then carried (explore (depth 0) r family 0 0) list else refused (refusalOf r (length list)) r list) .report .number ≡ 0 → refusalOf r (length list) ≡ 0
+        → (if q then carried (explore (depth 0) r family 0 0) list else refused (refusalOf r (length list)) r list) .report .number ≡ 0
+        → refusalOf r (length list) ≡ 0
     go true e z = eqb-true (refusalOf r (length list)) 0 e
     go false e z = z
 
-pub walk-carried : (r : List ℕ) (family : Family) (list : List ℕ) → refusalOf r (length list) ≡ 0 → walkOf r family list ≡ carried (explore (depth 0) r family 0 0) list
+pub walk-carried : (r : List ℕ) (family : Family) (list : List ℕ) → refusalOf r (length list) ≡ 0
+    → walkOf r family list ≡ carried (explore (depth 0) r family 0 0) list
 unfolding walkOf
 walk-carried r family list h = rw h refl
 
-pub walk-refused : (r : List ℕ) (family : Family) (list : List ℕ) → (refusalOf r (length list) ≡ 0 → ⊥) → walkOf r family list ≡ refused (refusalOf r (length list)) r list
+pub walk-refused : (r : List ℕ) (family : Family) (list : List ℕ) → (refusalOf r (length list) ≡ 0 → ⊥)
+    → walkOf r family list ≡ refused (refusalOf r (length list)) r list
 unfolding walkOf
 walk-refused r family list h = rw (ne-eqb (refusalOf r (length list)) 0 h) refl
 

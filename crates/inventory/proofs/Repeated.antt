@@ -1,7 +1,7 @@
 -- UIDs that stand twice: the laws of the search for them, and that two labels have one UID exactly where a UID stands twice among those gathered.
 -- Idea: `twins` looks back from each tag and `repeated` looks on from each UID; both grow by one UID at the end (`repeated-more`). Assumes nothing.
 use mathlib.Core.Path.{_≡_, refl, ap, sym, _∙_}
-use mathlib.Core.Bool.{Bool, true, false, _&&_, _||_}
+use mathlib.Core.Bool.{Bool, true, false, _||_}
 use mathlib.Core.List.{List, [], _∷_, _++_, append-nil}
 use Prim.Native.Nat.{ℕ, zero, suc, _+_, _-_, _≤_, _<_}
 use native.Mathlib.Nat.{add-zero, zero-add}
@@ -11,11 +11,12 @@ use borrow.Author.Tests.{eq-eqb, ne-eqb, eqb-true, le-leb, lt-leb, leb-false}
 use lib.Dec.{eqb, leb}
 use lib.ListN.{length, getD, take, drop, length-drop, drop-of-length-le}
 use lib.Seq.{drop-cons, take-all}
-use Rattle.frame.specs.Choose.{if_then_else_, gather}
-use Rattle.frame.specs.Number.{num, part}
-use Rattle.frame.proofs.Bools.{or-off}
-use Rattle.label.specs.Slots.{on}
+use Rattle.frame.specs.Choose.{gather}
+use Rattle.frame.proofs.Bools.{or-off, if-both}
+use Rattle.label.specs.Slots.{uidOf, takesPart}
 use Rattle.request.specs.declared.label.Family.the-variants.{Any}
+use Rattle.rack.specs.declared.tag.Kind.{Kind}
+use Rattle.rack.specs.declared.tag.Kind.the-variants.{Label, Chip, Other}
 use Rattle.rack.specs.File.{countOf, kindAt, bodyAt}
 use Rattle.inventory.specs.Endings.{one, count}
 use Rattle.inventory.specs.Walk.{uidAt, uidsTo, uids, anyOf, among, twins}
@@ -113,17 +114,19 @@ repeated-one (x ∷ us) u =
     order false false true d = refl
     order false false false d = refl
 
-repeated-more : (us : List ℕ) (k : ℕ) (b : List ℕ) → repeated (us ++ uidAt Any k b) ≡ (repeated us || among (uidAt Any k b) us)
-unfolding uidAt
-repeated-more us k b = go (eqb k 1 && on Any b)
+repeated-same : (us : List ℕ) → repeated (us ++ []) ≡ (repeated us || false)
+repeated-same us = ap repeated (append-nil us) ∙ or-none (repeated us)
   where
     or-none : (q : Bool) → q ≡ (q || false)
     or-none true = refl
     or-none false = refl
 
-    go : (q : Bool) → repeated (us ++ (if q then num (part 0 8 b) ∷ [] else [])) ≡ (repeated us || among (if q then num (part 0 8 b) ∷ [] else []) us)
-    go true = repeated-one us (num (part 0 8 b))
-    go false = ap repeated (append-nil us) ∙ or-none (repeated us)
+repeated-more : (us : List ℕ) (kind : Kind) (b : List ℕ) → repeated (us ++ uidAt Any kind b) ≡ (repeated us || among (uidAt Any kind b) us)
+unfolding uidAt
+repeated-more us Label b =
+    if-both (λ vs. repeated (us ++ vs) ≡ (repeated us || among vs us)) (takesPart Any b) (repeated-one us (uidOf b)) (repeated-same us)
+repeated-more us Chip b = repeated-same us
+repeated-more us Other b = repeated-same us
 
 twins-to : (r : List ℕ) (n : ℕ) → anyOf n (λ i. among (uidAt Any (kindAt r i) (bodyAt r i)) (uidsTo Any r i)) ≡ repeated (uidsTo Any r n)
 unfolding anyOf uidsTo gather repeated

@@ -1,5 +1,5 @@
--- A round on a rack of bytes: in each slot the rack and who answers, and the rack that is left. Idea: the rack in slot s is `rebuilt` of bodies `during` slot s,
--- so each law is one body's. Assumes nothing.
+-- A round on a rack of bytes: in each slot the rack and who answers, and the rack that is left. Idea: the rack in slot s is `rebuilt` of bodies
+-- `during` slot s, so each law is one body's. Assumes nothing.
 use mathlib.Core.Path.{_≡_, refl, ap, _∙_}
 use mathlib.Core.Bool.{true}
 use mathlib.Core.List.{List, []}
@@ -18,7 +18,7 @@ use Rattle.inventory.specs.Walk.{slotOutcome, blank, hits, cleared}
 use Rattle.inventory.proofs.Sent.{event, draws, after, heard}
 use Rattle.rack.proofs.Places.{gather-ext}
 use Rattle.rack.proofs.Rebuilt.{body-long, rebuilt-ext}
-use Rattle.rack.proofs.Closed.{next-rebuilt, answers-rebuilt}
+use Rattle.rack.proofs.NextRack.{next-rebuilt, answers-rebuilt}
 use Rattle.inventory.proofs.Bodies.{duringBody, called, spoken, body-step, body-last, answer-step, during-size, during-part, during-rules}
 use Rattle.inventory.proofs.Events.{Fine, tag, rebuilt-fine, told, ends, opens, next-first, answers-first}
 
@@ -48,7 +48,7 @@ module _ (r : List ℕ) (fine : Fine r) (family : Family) (m e : ℕ) (short : m
   bodies s i = duringBody family m e s (kindAt r i) (bodyAt r i)
 
   sized : (s i : ℕ) → i < countOf r → length (bodies s i) ≡ lengthAt r i
-  sized s i h = during-size (tag r fine i h) family m e s ∙ body-long r (fine .rack .whole) i h
+  sized s i h = during-size family m e s (kindAt r i) (bodyAt r i) ∙ body-long r (fine .rack .whole) i h
 
   bodies-fine : (s : ℕ) → s ≤ 15 → RackFine (rebuilt r (bodies s))
   bodies-fine s h = rebuilt-fine r (bodies s) (fine .rack) (λ i b. (sized s i b, during-rules (tag r fine i b) family m e s short low h))
@@ -65,7 +65,8 @@ module _ (r : List ℕ) (fine : Fine r) (family : Family) (m e : ℕ) (short : m
       next-rebuilt r (fine .rack .whole) (bodies 15) (sized 15) (event EndOfFrame) (draws (rebuilt r (bodies 15)))
       ∙ rebuilt-ext r _ _ (λ i b. body-last (tag r fine i b) family m e [] (getD (draws (rebuilt r (bodies 15))) i 0) short low)
 
-  step-heard : (s : ℕ) → s < 15 → heard (rebuilt r (bodies s)) EndOfFrame ≡ gather (countOf r) (λ i. spoken (called family m e (suc s) (kindAt r i) (bodyAt r i)) (bodies s i))
+  step-heard : (s : ℕ) → s < 15
+      → heard (rebuilt r (bodies s)) EndOfFrame ≡ gather (countOf r) (λ i. spoken (called family m e (suc s) (kindAt r i) (bodyAt r i)) (bodies s i))
   unfolding heard
   step-heard s h =
       answers-rebuilt r (fine .rack .whole) (bodies s) (sized s) (event EndOfFrame) (draws (rebuilt r (bodies s)))
@@ -116,7 +117,7 @@ module _ (r : List ℕ) (fine : Fine r) (family : Family) (m e : ℕ) (short : m
 
   pub asked-uid : (s i : ℕ) → i < countOf r → part 0 8 (asked s i) ≡ part 0 8 (bodyAt r i)
   asked-uid zero i h = refl
-  asked-uid (suc s) i h = during-part (tag r fine i h) family m e s
+  asked-uid (suc s) i h = during-part family m e s (kindAt r i) (bodyAt r i)
 
   -- the frames heard in slot s
   abbrev pub frames : ℕ → List (List ℕ)

@@ -1,17 +1,19 @@
 -- Document 01, "Walk": the events sent to the rack in turn, and what the walk makes of their replies. Assumes nothing.
-use mathlib.Core.Bool.{Bool, true, false, not, _&&_, _||_}
+use mathlib.Core.Bool.{Bool, true, false, not, _||_}
 use mathlib.Core.List.{List, [], _∷_, _++_}
 use Prim.Native.Nat.{ℕ, zero, suc, _+_, _-_, _*_, _/_}
 use lib.Dec.{eqb, ltb, leb}
 use lib.ListN.{length, getD, replicate}
 use lib.Seq.{sets}
 use Rattle.frame.specs.Choose.{if_then_else_, gather}
-use Rattle.frame.specs.Number.{num, bytesOf, part}
+use Rattle.frame.specs.Number.{bytesOf, part}
 use Rattle.frame.specs.CheckSum.{framed}
 use Rattle.frame.specs.Ending.{longer, bytesFor}
-use Rattle.label.specs.Slots.{on, clear}
+use Rattle.label.specs.Slots.{uidOf, takesPart, clear}
 use Rattle.request.specs.declared.label.Family.{Family}
 use Rattle.request.specs.declared.label.Family.the-variants.{Any, Only}
+use Rattle.rack.specs.declared.tag.Kind.{Kind}
+use Rattle.rack.specs.declared.tag.Kind.the-variants.{Label, Chip, Other}
 use Rattle.rack.specs.File.{countOf, kindAt, bodyAt, rebuilt, verdictOf}
 use Rattle.rack.specs.Event.{Outcome, least, eventOf}
 use Rattle.inventory.specs.declared.walk.Walked.{Walked}
@@ -94,8 +96,10 @@ explore (suc d) rack family m e =
 -- ---- the call
 
 -- the UIDs of the labels in state 1 or 3 that the family filter lets answer, in the order of the rack
-unfoldable pub uidAt : Family → ℕ → List ℕ → List ℕ
-uidAt family kind b = if eqb kind 1 && on family b then num (part 0 8 b) ∷ [] else []
+unfoldable pub uidAt : Family → Kind → List ℕ → List ℕ
+uidAt family Label b = if takesPart family b then uidOf b ∷ [] else []
+uidAt family Chip b = []
+uidAt family Other b = []
 
 unfoldable pub uidsTo : Family → List ℕ → ℕ → List ℕ
 uidsTo family r n = gather n (λ i. uidAt family (kindAt r i) (bodyAt r i))
@@ -142,8 +146,10 @@ walkOf r family list =
     else refused (refusalOf r (length list)) r list
 
 -- every label's slot, mask length and mask cleared, and nothing else changed
-unfoldable pub clearBody : ℕ → List ℕ → List ℕ
-clearBody kind b = if eqb kind 1 then clear b else b
+unfoldable pub clearBody : Kind → List ℕ → List ℕ
+clearBody Label b = clear b
+clearBody Chip b = b
+clearBody Other b = b
 
 unfoldable pub cleared : List ℕ → List ℕ
 cleared r = rebuilt r (λ i. clearBody (kindAt r i) (bodyAt r i))

@@ -1,25 +1,40 @@
 // Slots and masks of a rack cleared, as a round leaves it.
-use frame::put::put_number;
+use label::body::clear_slot;
 use rack::file::count;
+use rack::file::entry_of;
+use rack::file::kind_of;
 use rack::file::length_of;
+use rack::tag::Kind;
 ghost use mathlib.Core.Path.{_≡_};
+ghost use mathlib.Core.Bool.{true};
 ghost use Prim.Native.Nat.{_+_, _≤_};
 ghost use lib.ListN.{length};
 ghost use Rattle.frame.specs.Number.{part, splice};
+ghost use Rattle.rack.specs.File.{lengthFits};
 ghost use Rattle.rack.specs.Facts.{RackFine};
 ghost use Rattle.inventory.specs.Walk.{clearBody, cleared};
 
-// The tag at a place, if it is a label: no slot, no mask.
-fn clear_tag(rack: &mut [u8], at: usize, len: usize, kind: u8)
-    requires { ⌜ (at + len ≤ length (now rack)) × (32 ≤ len) ⌝ }
+// A tag, if it is a label: no slot, no mask.
+fn clear_tag(kind: Kind, body: &mut [u8])
+    requires { ⌜ lengthFits kind (length (now body)) ≡ true ⌝ }
+    ensures { λ _. ⌜ now (body .exit) ≡ clearBody kind (now (body .entry)) ⌝ }
+{
+    match kind {
+        Kind::Label => {
+            clear_slot(body);
+        }
+        Kind::Chip => {}
+        Kind::Other => {}
+    }
+}
+
+// The tag whose body lies at a place for a length: that part of the rack is lent on.
+fn clear_at(rack: &mut [u8], at: usize, len: usize, kind: Kind)
+    requires { ⌜ (at + len ≤ length (now rack)) × (lengthFits kind len ≡ true) ⌝ }
     ensures { λ _. ⌜ now (rack .exit) ≡ splice at len (clearBody kind (part at len (now (rack .entry)))) (now (rack .entry)) ⌝ }
 {
-    if kind != 1 {
-        return;
-    }
-    rack[at + 15] = 255;
-    rack[at + 16] = 0;
-    put_number(rack, at + 17, 0, 8);
+    let end = at + len;
+    clear_tag(kind, &mut rack[at..end]);
 }
 
 pub fn clear_rack(rack: &mut [u8])
@@ -27,12 +42,12 @@ pub fn clear_rack(rack: &mut [u8])
     ensures { λ _. ⌜ now (rack .exit) ≡ cleared (now (rack .entry)) ⌝ }
 {
     let n = count(rack);
-    let mut at = 2 + 8 * n;
+    let mut at = entry_of(n);
     let mut i = 0;
     while i < n {
-        let kind = rack[2 + 8 * i];
+        let kind = kind_of(rack, i);
         let len = length_of(rack, i);
-        clear_tag(rack, at, len, kind);
+        clear_at(rack, at, len, kind);
         at = at + len;
         i += 1;
     }

@@ -29,7 +29,7 @@ use Rattle.label.specs.Step.{withSlot, ended, told, silent, passes, read
 use Rattle.label.specs.Body.{loadOf, storeOf, worked, stepped, nextLabel, saidLabel}
 use Rattle.label.specs.Answer.{answerFrame}
 use Rattle.label.specs.Facts.{LabelFine}
-use Rattle.label.specs.Slots.{on, seek, clear, during}
+use Rattle.label.specs.Slots.{takesPart, seek, clear, during}
 use Rattle.label.proofs.Room.{sized-long}
 use Rattle.label.proofs.Stored.{load-store, store-load, store-seek, seek-own}
 use Rattle.label.proofs.Keeps.{proper-idle, proper-slot, load-proper, mask-fits, stored-fine}
@@ -81,14 +81,14 @@ pub store-ended : (b : List ℕ) → storeOf b (ended (loadOf b)) ≡ clear b
 unfolding clear ended
 store-ended b = store-seek b 255 0 0
 
-on-seek : (family : Family) (s m e : ℕ) (b : List ℕ) → on family (seek s m e b) ≡ on family b
-unfolding on
-on-seek family s m e b =
+takes-seek : (family : Family) (s m e : ℕ) (b : List ℕ) → takesPart family (seek s m e b) ≡ takesPart family b
+unfolding takesPart
+takes-seek family s m e b =
     ap₂ (λ (x y : ℕ). (eqb x 1 || eqb x 3) && passes family y) (seek-getD s m e b 14 (omega arith)) (seek-getD s m e b 9 (omega arith))
 
-pub on-clear : (family : Family) (b : List ℕ) → on family (clear b) ≡ on family b
+pub takes-clear : (family : Family) (b : List ℕ) → takesPart family (clear b) ≡ takesPart family b
 unfolding clear
-on-clear family b = on-seek family 255 0 0 b
+takes-clear family b = takes-seek family 255 0 0 b
 
 -- ---- a step by its outcome
 
@@ -119,22 +119,23 @@ module _ (r : Request) (n : ℕ) (b : List ℕ) (l : Label) where
 -- ---- what the two calls do to a label
 
 -- one that takes part is awake
-on-awake : (family : Family) (b : List ℕ) → on family b ≡ true → eqb (getD b 14 0) 0 ≡ false
-unfolding on
-on-awake family b h = ne-eqb (getD b 14 0) 0 (λ z. false≢true (sym (rw z) ∙ and-both (eqb (getD b 14 0) 1 || eqb (getD b 14 0) 3) (passes family (getD b 9 0)) h .0))
+takes-awake : (family : Family) (b : List ℕ) → takesPart family b ≡ true → eqb (getD b 14 0) 0 ≡ false
+unfolding takesPart
+takes-awake family b h =
+    ne-eqb (getD b 14 0) 0 (λ z. false≢true (sym (rw z) ∙ and-both (eqb (getD b 14 0) 1 || eqb (getD b 14 0) 3) (passes family (getD b 9 0)) h .0))
 
-on-ready : (family : Family) (b : List ℕ) → on family b ≡ true → ready (loadOf b) ≡ true
-unfolding on ready loadOf
-on-ready family b h = and-both (eqb (getD b 14 0) 1 || eqb (getD b 14 0) 3) (passes family (getD b 9 0)) h .0
+takes-ready : (family : Family) (b : List ℕ) → takesPart family b ≡ true → ready (loadOf b) ≡ true
+unfolding takesPart ready loadOf
+takes-ready family b h = and-both (eqb (getD b 14 0) 1 || eqb (getD b 14 0) 3) (passes family (getD b 9 0)) h .0
 
 module _ (family : Family) (m e n : ℕ) (b : List ℕ) where
-  inventory-on : on family b ≡ true → stepped (bare (k.Inventory family true m e)) n b ≡ turn (withSlot 0 m e (loadOf b))
-  unfolding on stepped act called inventory ready ended loadOf
-  inventory-on h = rw (on-awake family b h, h)
+  inventory-taking : takesPart family b ≡ true → stepped (bare (k.Inventory family true m e)) n b ≡ turn (withSlot 0 m e (loadOf b))
+  unfolding takesPart stepped act called inventory ready ended loadOf
+  inventory-taking h = rw (takes-awake family b h, h)
 
-  inventory-off : on family b ≡ false → (getD b 14 0 ≡ 0 → ⊥) → stepped (bare (k.Inventory family true m e)) n b ≡ silent (ended (loadOf b))
-  unfolding on stepped act called inventory ready ended loadOf
-  inventory-off h z = rw (ne-eqb (getD b 14 0) 0 z, h)
+  inventory-not : takesPart family b ≡ false → (getD b 14 0 ≡ 0 → ⊥) → stepped (bare (k.Inventory family true m e)) n b ≡ silent (ended (loadOf b))
+  unfolding takesPart stepped act called inventory ready ended loadOf
+  inventory-not h z = rw (ne-eqb (getD b 14 0) 0 z, h)
 
   inventory-asleep : getD b 14 0 ≡ 0 → stepped (bare (k.Inventory family true m e)) n b ≡ silent (loadOf b)
   unfolding stepped act called inventory loadOf
@@ -180,18 +181,18 @@ module _ (s m e : ℕ) (b : List ℕ) (long : 25 ≤ length b) (he : e < 256 ^ 8
 -- ---- in slot s
 
 module _ (family : Family) (m e s : ℕ) (b : List ℕ) where
-  pub during-on : on family b ≡ true → during family m e s b ≡ seek s m e b
+  pub during-taking : takesPart family b ≡ true → during family m e s b ≡ seek s m e b
   unfolding during
-  during-on h = rw h
+  during-taking h = rw h
 
-  during-off : on family b ≡ false → during family m e s b ≡ clear b
+  during-not : takesPart family b ≡ false → during family m e s b ≡ clear b
   unfolding during
-  during-off h = rw h
+  during-not h = rw h
 
   -- a law of a body in a slot is one of either
   during-both : (P : List ℕ → Type 0) → P (seek s m e b) → P (clear b) → P (during family m e s b)
   unfolding during
-  during-both P x y = if-both P (on family b) x y
+  during-both P x y = if-both P (takesPart family b) x y
 
   pub during-uid : part 0 8 (during family m e s b) ≡ part 0 8 b
   during-uid = during-both (λ x. part 0 8 x ≡ part 0 8 b) (seek-uid s m e b) (clear-uid b)
@@ -218,39 +219,40 @@ clear-own b f ok z =
 
 module _ (family : Family) (m e : ℕ) (bytes b : List ℕ) (f : Bytes b) (ok : LabelFine b) where
   pub first : nextLabel (bare (k.Inventory family true m e)) bytes b ≡ during family m e 0 b
-  first = go (on family b) refl
+  first = go (takesPart family b) refl
     where
-      awake-off : on family b ≡ false → (t : Bool) → eqb (getD b 14 0) 0 ≡ t → nextLabel (bare (k.Inventory family true m e)) bytes b ≡ during family m e 0 b
-      awake-off q true z =
+      not-taking : takesPart family b ≡ false → (t : Bool) → eqb (getD b 14 0) 0 ≡ t
+          → nextLabel (bare (k.Inventory family true m e)) bytes b ≡ during family m e 0 b
+      not-taking q true z =
           let y = eqb-true (getD b 14 0) 0 z in
           next-silent _ bytes b (loadOf b) (inventory-asleep family m e (length bytes) b y)
           ∙ store-load b f (omega (arith, sized-long b (ok .sized)))
           ∙ sym (clear-own b f ok y)
-          ∙ sym (during-off family m e 0 b q)
-      awake-off q false z =
-          next-silent _ bytes b (ended (loadOf b)) (inventory-off family m e (length bytes) b q (eqb-false (getD b 14 0) 0 z))
+          ∙ sym (during-not family m e 0 b q)
+      not-taking q false z =
+          next-silent _ bytes b (ended (loadOf b)) (inventory-not family m e (length bytes) b q (eqb-false (getD b 14 0) 0 z))
           ∙ store-ended b
-          ∙ sym (during-off family m e 0 b q)
+          ∙ sym (during-not family m e 0 b q)
 
-      go : (t : Bool) → on family b ≡ t → nextLabel (bare (k.Inventory family true m e)) bytes b ≡ during family m e 0 b
+      go : (t : Bool) → takesPart family b ≡ t → nextLabel (bare (k.Inventory family true m e)) bytes b ≡ during family m e 0 b
       go true q =
-          next-turn _ bytes b (withSlot 0 m e (loadOf b)) (inventory-on family m e (length bytes) b q)
+          next-turn _ bytes b (withSlot 0 m e (loadOf b)) (inventory-taking family m e (length bytes) b q)
           ∙ store-seek b 0 m e
-          ∙ sym (during-on family m e 0 b q)
-      go false q = awake-off q (eqb (getD b 14 0) 0) refl
+          ∙ sym (during-taking family m e 0 b q)
+      go false q = not-taking q (eqb (getD b 14 0) 0) refl
 
 pub said-first : (family : Family) (m e n : ℕ) (b : List ℕ)
-    → saidLabel (bare (k.Inventory family true m e)) n b ≡ (if on family b && endsInSlot (part 0 8 b) e m 0 then a.Found else a.Silent)
+    → saidLabel (bare (k.Inventory family true m e)) n b ≡ (if takesPart family b && endsInSlot (part 0 8 b) e m 0 then a.Found else a.Silent)
 unfolding loadOf
-said-first family m e n b = go (on family b) refl
+said-first family m e n b = go (takesPart family b) refl
   where
-    asleep : on family b ≡ false → (t : Bool) → eqb (getD b 14 0) 0 ≡ t → saidLabel (bare (k.Inventory family true m e)) n b ≡ a.Silent
+    asleep : takesPart family b ≡ false → (t : Bool) → eqb (getD b 14 0) 0 ≡ t → saidLabel (bare (k.Inventory family true m e)) n b ≡ a.Silent
     asleep q true z = said-silent _ n b (loadOf b) (inventory-asleep family m e n b (eqb-true (getD b 14 0) 0 z))
-    asleep q false z = said-silent _ n b (ended (loadOf b)) (inventory-off family m e n b q (eqb-false (getD b 14 0) 0 z))
+    asleep q false z = said-silent _ n b (ended (loadOf b)) (inventory-not family m e n b q (eqb-false (getD b 14 0) 0 z))
 
-    go : (t : Bool) → on family b ≡ t
+    go : (t : Bool) → takesPart family b ≡ t
         → saidLabel (bare (k.Inventory family true m e)) n b ≡ (if t && endsInSlot (part 0 8 b) e m 0 then a.Found else a.Silent)
-    go true q = said-turn _ n b (withSlot 0 m e (loadOf b)) (inventory-on family m e n b q)
+    go true q = said-turn _ n b (withSlot 0 m e (loadOf b)) (inventory-taking family m e n b q)
     go false q = asleep q (eqb (getD b 14 0) 0) refl
 
 module _ (family : Family) (m e : ℕ) (b : List ℕ) (ok : LabelFine b) (hm : m ≤ 60) (he : e < 2 ^ m) where
@@ -272,51 +274,51 @@ module _ (family : Family) (m e : ℕ) (b : List ℕ) (ok : LabelFine b) (hm : m
   said-none n = said-silent _ n (seek 255 0 0 b) (withSlot 255 0 0 (loadOf b)) (stepped-none 255 0 0 b long (omega arith) n refl)
 
   pub step : (s : ℕ) (bytes : List ℕ) → s < 15 → nextLabel (bare k.EndOfFrame) bytes (during family m e s b) ≡ during family m e (suc s) b
-  step s bytes h = go (on family b) refl
+  step s bytes h = go (takesPart family b) refl
     where
-      go : (t : Bool) → on family b ≡ t → nextLabel (bare k.EndOfFrame) bytes (during family m e s b) ≡ during family m e (suc s) b
+      go : (t : Bool) → takesPart family b ≡ t → nextLabel (bare k.EndOfFrame) bytes (during family m e s b) ≡ during family m e (suc s) b
       go true q =
-          ap (nextLabel (bare k.EndOfFrame) bytes) (during-on family m e s b q)
-          ∙ next-turn _ bytes (seek s m e b) (withSlot (s + 1) m e (loadOf b)) (stepped-more s m e b long fits (length bytes) (on-awake family b q) h)
+          ap (nextLabel (bare k.EndOfFrame) bytes) (during-taking family m e s b q)
+          ∙ next-turn _ bytes (seek s m e b) (withSlot (s + 1) m e (loadOf b)) (stepped-more s m e b long fits (length bytes) (takes-awake family b q) h)
           ∙ store-again s m e b long fits 0 (s + 1) m e
           ∙ ap (λ (x : ℕ). seek x m e b) (add-one s)
-          ∙ sym (during-on family m e (suc s) b q)
+          ∙ sym (during-taking family m e (suc s) b q)
       go false q =
-          ap (nextLabel (bare k.EndOfFrame) bytes) (during-off family m e s b q) ∙ next-none bytes ∙ sym (during-off family m e (suc s) b q)
+          ap (nextLabel (bare k.EndOfFrame) bytes) (during-not family m e s b q) ∙ next-none bytes ∙ sym (during-not family m e (suc s) b q)
 
   pub last : (bytes : List ℕ) → nextLabel (bare k.EndOfFrame) bytes (during family m e 15 b) ≡ clear b
-  last bytes = go (on family b) refl
+  last bytes = go (takesPart family b) refl
     where
-      ends : on family b ≡ true → nextLabel (bare k.EndOfFrame) bytes (seek 15 m e b) ≡ seek 255 0 0 b
+      ends : takesPart family b ≡ true → nextLabel (bare k.EndOfFrame) bytes (seek 15 m e b) ≡ seek 255 0 0 b
       ends q =
-          next-silent _ bytes (seek 15 m e b) (withSlot 255 0 0 (loadOf b)) (stepped-last 15 m e b long fits (length bytes) (on-awake family b q) refl)
+          next-silent _ bytes (seek 15 m e b) (withSlot 255 0 0 (loadOf b)) (stepped-last 15 m e b long fits (length bytes) (takes-awake family b q) refl)
           ∙ store-again 15 m e b long fits 0 255 0 0
 
-      go : (t : Bool) → on family b ≡ t → nextLabel (bare k.EndOfFrame) bytes (during family m e 15 b) ≡ clear b
-      go true q = ap (nextLabel (bare k.EndOfFrame) bytes) (during-on family m e 15 b q) ∙ ends q ∙ sym (clear-is b)
-      go false q = ap (nextLabel (bare k.EndOfFrame) bytes) (during-off family m e 15 b q) ∙ next-none bytes
+      go : (t : Bool) → takesPart family b ≡ t → nextLabel (bare k.EndOfFrame) bytes (during family m e 15 b) ≡ clear b
+      go true q = ap (nextLabel (bare k.EndOfFrame) bytes) (during-taking family m e 15 b q) ∙ ends q ∙ sym (clear-is b)
+      go false q = ap (nextLabel (bare k.EndOfFrame) bytes) (during-not family m e 15 b q) ∙ next-none bytes
 
   pub said-step : (s n : ℕ) → s < 15
-      → saidLabel (bare k.EndOfFrame) n (during family m e s b) ≡ (if on family b && endsInSlot (part 0 8 b) e m (suc s) then a.Found else a.Silent)
+      → saidLabel (bare k.EndOfFrame) n (during family m e s b) ≡ (if takesPart family b && endsInSlot (part 0 8 b) e m (suc s) then a.Found else a.Silent)
   unfolding loadOf
-  said-step s n h = go (on family b) refl
+  said-step s n h = go (takesPart family b) refl
     where
-      go : (t : Bool) → on family b ≡ t
+      go : (t : Bool) → takesPart family b ≡ t
           → saidLabel (bare k.EndOfFrame) n (during family m e s b) ≡ (if t && endsInSlot (part 0 8 b) e m (suc s) then a.Found else a.Silent)
       go true q =
-          ap (saidLabel (bare k.EndOfFrame) n) (during-on family m e s b q)
-          ∙ said-turn _ n (seek s m e b) (withSlot (s + 1) m e (loadOf b)) (stepped-more s m e b long fits n (on-awake family b q) h)
+          ap (saidLabel (bare k.EndOfFrame) n) (during-taking family m e s b q)
+          ∙ said-turn _ n (seek s m e b) (withSlot (s + 1) m e (loadOf b)) (stepped-more s m e b long fits n (takes-awake family b q) h)
           ∙ ap (λ (x : ℕ). if endsInSlot (part 0 8 b) e m x then a.Found else a.Silent) (add-one s)
-      go false q = ap (saidLabel (bare k.EndOfFrame) n) (during-off family m e s b q) ∙ said-none n
+      go false q = ap (saidLabel (bare k.EndOfFrame) n) (during-not family m e s b q) ∙ said-none n
 
   pub said-last : (n : ℕ) → saidLabel (bare k.EndOfFrame) n (during family m e 15 b) ≡ a.Silent
-  said-last n = go (on family b) refl
+  said-last n = go (takesPart family b) refl
     where
-      go : (t : Bool) → on family b ≡ t → saidLabel (bare k.EndOfFrame) n (during family m e 15 b) ≡ a.Silent
+      go : (t : Bool) → takesPart family b ≡ t → saidLabel (bare k.EndOfFrame) n (during family m e 15 b) ≡ a.Silent
       go true q =
-          ap (saidLabel (bare k.EndOfFrame) n) (during-on family m e 15 b q)
-          ∙ said-silent _ n (seek 15 m e b) (withSlot 255 0 0 (loadOf b)) (stepped-last 15 m e b long fits n (on-awake family b q) refl)
-      go false q = ap (saidLabel (bare k.EndOfFrame) n) (during-off family m e 15 b q) ∙ said-none n
+          ap (saidLabel (bare k.EndOfFrame) n) (during-taking family m e 15 b q)
+          ∙ said-silent _ n (seek 15 m e b) (withSlot 255 0 0 (loadOf b)) (stepped-last 15 m e b long fits n (takes-awake family b q) refl)
+      go false q = ap (saidLabel (bare k.EndOfFrame) n) (during-not family m e 15 b q) ∙ said-none n
 
 -- ---- its rules
 
@@ -334,13 +336,13 @@ clear-fine b f ok =
     (stored-fine b (withSlot 255 0 0 (loadOf b)) ok (proper-idle (loadOf b) _ _ _ _ (p .dsfid) (p .afi) (p .locks) (p .state)))
 
 pub during-fine : (family : Family) (m e s : ℕ) (b : List ℕ) → Bytes b → LabelFine b → m ≤ 60 → e < 2 ^ m → s ≤ 15 → LabelFine (during family m e s b)
-during-fine family m e s b f ok hm he hs = go (on family b) refl
+during-fine family m e s b f ok hm he hs = go (takesPart family b) refl
   where
-    go : (t : Bool) → on family b ≡ t → LabelFine (during family m e s b)
+    go : (t : Bool) → takesPart family b ≡ t → LabelFine (during family m e s b)
     go true q =
-        rw (during-on family m e s b q, ← store-seek b s m e)
-        (stored-fine b (withSlot s m e (loadOf b)) ok (proper-slot (loadOf b) s m e (load-proper b f ok) (on-ready family b q) hs hm he))
-    go false q = rw (during-off family m e s b q) (clear-fine b f ok)
+        rw (during-taking family m e s b q, ← store-seek b s m e)
+        (stored-fine b (withSlot s m e (loadOf b)) ok (proper-slot (loadOf b) s m e (load-proper b f ok) (takes-ready family b q) hs hm he))
+    go false q = rw (during-not family m e s b q) (clear-fine b f ok)
 
 -- ---- what an answer to an Inventory says
 

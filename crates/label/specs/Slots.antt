@@ -6,13 +6,17 @@ use lib.Dec.{eqb}
 use lib.ListN.{getD}
 use lib.Seq.{sets}
 use Rattle.frame.specs.Choose.{if_then_else_}
-use Rattle.frame.specs.Number.{bytesOf}
+use Rattle.frame.specs.Number.{num, bytesOf, part}
 use Rattle.request.specs.declared.label.Family.{Family}
 use Rattle.label.specs.Step.{passes}
 
+-- its UID as a number
+abbrev pub uidOf : List ℕ → ℕ
+uidOf b = num (part 0 8 b)
+
 -- it takes part: state 1 or 3, and the AFI passes
-unfoldable pub on : Family → List ℕ → Bool
-on family b = (eqb (getD b 14 0) 1 || eqb (getD b 14 0) 3) && passes family (getD b 9 0)
+unfoldable pub takesPart : Family → List ℕ → Bool
+takesPart family b = (eqb (getD b 14 0) 1 || eqb (getD b 14 0) 3) && passes family (getD b 9 0)
 
 -- bytes 15 to 24 anew: slot, mask length, mask
 unfoldable pub seek : ℕ → ℕ → ℕ → List ℕ → List ℕ
@@ -24,4 +28,4 @@ clear b = seek 255 0 0 b
 
 -- the body in slot s of an Inventory with mask e of m bits
 unfoldable pub during : Family → ℕ → ℕ → ℕ → List ℕ → List ℕ
-during family m e s b = if on family b then seek s m e b else clear b
+during family m e s b = if takesPart family b then seek s m e b else clear b

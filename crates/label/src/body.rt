@@ -1,4 +1,4 @@
-// A label's body: the label it holds, and a step in place.
+// A label's body: the label it holds, a step in place, and what a walk reads and clears.
 use crate::locks::lock_on;
 use crate::locks::lock_room;
 use crate::locks::set_lock;
@@ -6,17 +6,20 @@ use crate::step::Answer;
 use crate::step::Label;
 use crate::step::Stepped;
 use crate::step::Work;
+use crate::step::passing;
 use frame::number::number_at;
 use frame::put::put_bytes;
 use frame::put::put_number;
 use frame::uid::uid_at;
 use request::label::Call;
+use request::label::Family;
 use request::label::Order;
 use request::label::Request;
 ghost use mathlib.Core.Path.{_≡_};
 ghost use Prim.Native.Nat.{_≤_};
 ghost use lib.ListN.{length};
 ghost use Rattle.label.specs.Body.{Sized, Fits, loadOf, storeOf, blockAt, lockOf, named, worked, stepped, nextLabel, saidLabel};
+ghost use Rattle.label.specs.Slots.{uidOf, takesPart, clear};
 
 // The label that a body holds.
 pub fn load(b: &[u8]) -> Label
@@ -123,4 +126,37 @@ pub fn step(b: &mut [u8], r: Request, data: &[u8]) -> Answer
     let work = stepped.work;
     do_work(b, work, data);
     stepped.answer
+}
+
+pub fn uid_of(b: &[u8]) -> u64
+    requires { ⌜ 32 ≤ length (now b) ⌝ }
+    ensures { λ r. ⌜ r ≡ uidOf (now (b .entry)) ⌝ }
+{
+    number_at(b, 0, 8)
+}
+
+// Whether it is ready or selected, and the family lets it answer.
+pub fn takes_part(b: &[u8], family: Family) -> bool
+    requires { ⌜ 32 ≤ length (now b) ⌝ }
+    ensures { λ r. ⌜ r ≡ takesPart family (now (b .entry)) ⌝ }
+{
+    let passes = passing(family, b[9]);
+    let state = b[14];
+    if state == 1 {
+        return passes;
+    }
+    if state == 3 {
+        return passes;
+    }
+    false
+}
+
+// No slot, no mask.
+pub fn clear_slot(b: &mut [u8])
+    requires { ⌜ 32 ≤ length (now b) ⌝ }
+    ensures { λ _. ⌜ now (b .exit) ≡ clear (now (b .entry)) ⌝ }
+{
+    b[15] = 255;
+    b[16] = 0;
+    put_number(b, 17, 0, 8);
 }

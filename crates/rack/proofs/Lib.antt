@@ -1,10 +1,10 @@
 -- The laws of the rack.
 pub mod Places
-pub mod Rebuilt
 pub mod Verdicts
+pub mod Judging
+pub mod Rebuilt
 pub mod Tags
 pub mod Pass
-pub mod Closed
+pub mod NextRack
 pub mod Outcomes
-pub mod Same
 pub mod Floor

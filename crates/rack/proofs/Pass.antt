@@ -4,17 +4,19 @@
 use mathlib.Core.Path.{_≡_, refl, ap, sym, _∙_}
 use mathlib.Core.Bool.{true, false}
 use mathlib.Core.List.{List, [], _∷_, _++_, append-assoc, append-nil}
-use Prim.Native.Nat.{ℕ, _+_, _*_, _≤_, _<_}
+use Prim.Native.Nat.{ℕ, _+_, _≤_, _<_}
 use native.Mathlib.Omega.{arith}
 use lib.ListN.{length, take, drop, getD, length-append, take-append-drop}
 use lib.Seq.{take-at, drop-drop, drop-length}
 use Rattle.frame.specs.Choose.{gather}
 use Rattle.frame.specs.Number.{part, splice}
 use Rattle.frame.proofs.Lists.{gather-none, gather-more}
+use Rattle.rack.specs.declared.tag.Kind.{Kind}
 use Rattle.rack.specs.declared.tag.Said.{Said}
 use Rattle.rack.specs.File.{countOf, entryAt, kindAt, lengthAt, startOf, bodyAt, contents, rebuilt}
 use Rattle.rack.specs.Facts.{RackFine, TagFine}
-use Rattle.rack.specs.Event.{Event, nextBody, saidBy, speaks, frameOf, answerBody, next, answer, nextRack, HeardOf}
+use Rattle.rack.specs.Event.{Event, nextBody, saidBy, speaks, frameOf, answerBody, next, answer, nextRack}
+use Rattle.rack.specs.Pass.{PassOf}
 use Rattle.rack.proofs.Places.{part-at, splice-at, start-none, start-more, kind-same, length-same}
 use Rattle.rack.proofs.Rebuilt.{contents-length, body-inside, body-long, front-length}
 use Rattle.rack.proofs.Tags.{body-length}
@@ -24,173 +26,166 @@ use Rattle.rack.proofs.Tags.{body-length}
 pub tag-fine : (r : List ℕ) → RackFine r → (i : ℕ) → i < countOf r → TagFine (kindAt r i) (bodyAt r i)
 tag-fine r ok i h = record { fits = rw (body-long r (ok .whole) i h) (ok .entry i h .fits); rules = ok .body i h .rules }
 
-pub next-sized : (r : List ℕ) (e : Event) (ds : List ℕ) → RackFine r → (i : ℕ) → i < countOf r → length (next r e ds i) ≡ lengthAt r i
+pub next-sized : (r : List ℕ) (event : Event) (ds : List ℕ) → RackFine r → (i : ℕ) → i < countOf r → length (next r event ds i) ≡ lengthAt r i
 unfolding next
-next-sized r e ds ok i h = body-length (kindAt r i) e (getD ds i 0) (bodyAt r i) ∙ body-long r (ok .whole) i h
+next-sized r event ds ok i h = body-length (kindAt r i) event (getD ds i 0) (bodyAt r i) ∙ body-long r (ok .whole) i h
 
 -- ---- the rack after i steps
 
 abbrev pub front : List ℕ → Event → List ℕ → ℕ → List ℕ
-front r e ds i = contents r ++ gather i (next r e ds)
+front r event ds i = contents r ++ gather i (next r event ds)
 
 pub passed : List ℕ → Event → List ℕ → ℕ → List ℕ
-passed r e ds i = front r e ds i ++ drop (startOf r i) r
+passed r event ds i = front r event ds i ++ drop (startOf r i) r
 
-module _ (r : List ℕ) (e : Event) (ds : List ℕ) (ok : RackFine r) where
-  reaches : (i : ℕ) → i ≤ countOf r → length (front r e ds i) ≡ startOf r i
-  reaches = front-length r (ok .whole) (next r e ds) (next-sized r e ds ok)
+module _ (r : List ℕ) (event : Event) (ds : List ℕ) (ok : RackFine r) where
+  reaches : (i : ℕ) → i ≤ countOf r → length (front r event ds i) ≡ startOf r i
+  reaches = front-length r (ok .whole) (next r event ds) (next-sized r event ds ok)
 
-  pub passed-none : passed r e ds 0 ≡ r
+  pub passed-none : passed r event ds 0 ≡ r
   unfolding passed
   passed-none = rw (gather-none, append-nil, start-none) (take-append-drop (entryAt (countOf r)) r)
 
   -- body i is as it was
-  pub passed-part : (i : ℕ) → i < countOf r → part (startOf r i) (lengthAt r i) (passed r e ds i) ≡ bodyAt r i
+  pub passed-part : (i : ℕ) → i < countOf r → part (startOf r i) (lengthAt r i) (passed r event ds i) ≡ bodyAt r i
   unfolding passed
-  passed-part i h = part-at (front r e ds i) (drop (startOf r i) r) (startOf r i) (lengthAt r i) (reaches i (omega arith))
+  passed-part i h = part-at (front r event ds i) (drop (startOf r i) r) (startOf r i) (lengthAt r i) (reaches i (omega arith))
 
-  pub passed-more : (i : ℕ) → i < countOf r → splice (startOf r i) (lengthAt r i) (next r e ds i) (passed r e ds i) ≡ passed r e ds (i + 1)
+  pub passed-more : (i : ℕ) → i < countOf r → splice (startOf r i) (lengthAt r i) (next r event ds i) (passed r event ds i) ≡ passed r event ds (i + 1)
   unfolding passed
   passed-more i h =
-      splice-at (front r e ds i) (drop (startOf r i) r) (next r e ds i) (startOf r i) (lengthAt r i) (reaches i (omega arith))
+      splice-at (front r event ds i) (drop (startOf r i) r) (next r event ds i) (startOf r i) (lengthAt r i) (reaches i (omega arith))
       ∙ simp (gather-more, start-more, drop-drop, append-assoc)
 
-  pub passed-front : (i : ℕ) → take (entryAt (countOf r)) (passed r e ds i) ≡ contents r
+  pub passed-front : (i : ℕ) → take (entryAt (countOf r)) (passed r event ds i) ≡ contents r
   unfolding passed
   passed-front i = rw append-assoc (take-at (contents r) _ (entryAt (countOf r)) (contents-length r (ok .whole)))
 
-  pub passed-all : passed r e ds (countOf r) ≡ nextRack r e ds
+  pub passed-all : passed r event ds (countOf r) ≡ nextRack r event ds
   unfolding passed nextRack rebuilt
   passed-all = rw (ok .whole, drop-length, append-nil)
 
--- ---- what was heard, one tag further
+-- ---- the pass, one tag further
 
 length-zero : {A : Type 0} (l : List A) → length l ≡ 0 → l ≡ []
 length-zero [] h = refl
 length-zero (x ∷ l) h = absurd (omega arith)
 
-module _ (r : List ℕ) (e : Event) (ds : List ℕ) where
-  pub heard-none : (w : ℕ) (s : Said) → HeardOf r e ds 0 0 w s
-  heard-none w s = record { count = ap length (sym (gather-none (answer r e ds))); alone = λ z. absurd (omega arith) }
+module _ (r : List ℕ) (event : Event) (ds : List ℕ) where
+  pub pass-none : (w : ℕ) (s : Said) → PassOf r event ds 0 0 w s
+  pass-none w s = record { count = ap length (sym (gather-none (answer r event ds))); alone = λ z. absurd (omega arith) }
 
-  module _ (i a w : ℕ) (s q : Said) (h : HeardOf r e ds i a w s) (is : q ≡ saidBy (kindAt r i) e (getD ds i 0) (bodyAt r i)) where
-    silent : speaks q ≡ false → gather (i + 1) (answer r e ds) ≡ gather i (answer r e ds)
+  module _ (i a w : ℕ) (s q : Said) (h : PassOf r event ds i a w s) (is : q ≡ saidBy (kindAt r i) event (getD ds i 0) (bodyAt r i)) where
+    silent : speaks q ≡ false → gather (i + 1) (answer r event ds) ≡ gather i (answer r event ds)
     unfolding answer answerBody
     silent z = rw (gather-more, ← is, z, append-nil)
 
-    spoken : speaks q ≡ true → gather (i + 1) (answer r e ds) ≡ gather i (answer r e ds) ++ (frameOf q (bodyAt r i) ∷ [])
+    spoken : speaks q ≡ true → gather (i + 1) (answer r event ds) ≡ gather i (answer r event ds) ++ (frameOf q (bodyAt r i) ∷ [])
     unfolding answer answerBody
     spoken z = rw (gather-more, ← is, z)
 
-    pub heard-silent : speaks q ≡ false → HeardOf r e ds (i + 1) a w s
-    heard-silent z =
+    pub pass-silent : speaks q ≡ false → PassOf r event ds (i + 1) a w s
+    pass-silent z =
         record {
           count = h .count ∙ ap length (sym (silent z));
           alone = λ o. record {
             below = omega (arith, h .alone o .below);
             says = h .alone o .says;
-            spoke = h .alone o .spoke;
             one = silent z ∙ h .alone o .one;
           };
         }
 
-    pub heard-spoken : speaks q ≡ true → HeardOf r e ds (i + 1) (a + 1) i q
-    heard-spoken z =
+    pub pass-spoken : speaks q ≡ true → PassOf r event ds (i + 1) (a + 1) i q
+    pass-spoken z =
         record {
           count = rw (spoken z, length-append) (omega (arith, h .count));
           alone = λ o. record {
             below = omega arith;
             says = is;
-            spoke = z;
-            one = spoken z ∙ rw (length-zero (gather i (answer r e ds)) (omega (arith, h .count)));
+            one = spoken z ∙ rw (length-zero (gather i (answer r event ds)) (omega (arith, h .count)));
           };
         }
 
 -- ---- the head of the loop
 
-pub record Running (r : List ℕ) (e : Event) (ds xs : List ℕ) (i a w : ℕ) (said : Said) (at : ℕ) : Type 0 where
+pub record Running (r : List ℕ) (event : Event) (ds xs : List ℕ) (i answered who : ℕ) (said : Said) (at : ℕ) : Type 0 where
   pub upto : i ≤ countOf r
-  pub most : a ≤ i
-  pub is : xs ≡ passed r e ds i
+  pub most : answered ≤ i
+  pub is : xs ≡ passed r event ds i
   pub same : length xs ≡ length r
   pub place : at ≡ startOf r i
-  pub heard : HeardOf r e ds i a w said
+  pub pass : PassOf r event ds i answered who said
 
-pub running-none : (r : List ℕ) (e : Event) (ds : List ℕ) (w : ℕ) (said : Said) (n at : ℕ) → RackFine r → n ≡ countOf r → at ≡ entryAt n
-    → Running r e ds r 0 0 w said at
-running-none r e ds w said n at ok c p =
+pub running-none : (r : List ℕ) (event : Event) (ds : List ℕ) (who : ℕ) (said : Said) {n at : ℕ} → RackFine r → n ≡ countOf r → at ≡ entryAt n
+    → Running r event ds r 0 0 who said at
+running-none r event ds who said ok c p =
     record {
       upto = omega arith;
       most = omega arith;
-      is = sym (passed-none r e ds ok);
+      is = sym (passed-none r event ds ok);
       same = refl;
       place = p ∙ rw c (sym (start-none r));
-      heard = heard-none r e ds w said;
+      pass = pass-none r event ds who said;
     }
 
--- ---- a turn of the loop
-module _ (r : List ℕ) (e : Event) (ds xs : List ℕ) (i a w : ℕ) (said : Said) (at : ℕ) (ok : RackFine r) (run : Running r e ds xs i a w said at) (h : i < countOf r) where
-  contents-same : take (entryAt (countOf r)) xs ≡ contents r
-  contents-same = ap (take (entryAt (countOf r))) (run .is) ∙ passed-front r e ds ok i
+module _ {r : List ℕ} {event : Event} {ds xs : List ℕ} {i answered who : ℕ} {said : Said} {at : ℕ} (ok : RackFine r)
+    (run : Running r event ds xs i answered who said at) where
+  -- ---- the end of the loop
+  pub running-done : countOf r ≤ i → PassOf r event ds (countOf r) answered who said × (xs ≡ nextRack r event ds)
+  running-done h =
+      let z : i ≡ countOf r = omega (arith, run .upto) in
+      (rw z at (run .pass), run .is ∙ ap (passed r event ds) z ∙ passed-all r event ds ok)
 
-  turn-kind : kindAt xs i ≡ kindAt r i
-  turn-kind = kind-same r xs contents-same i h
+  -- ---- a turn of it
+  module _ (h : i < countOf r) where
+    contents-same : take (entryAt (countOf r)) xs ≡ contents r
+    contents-same = ap (take (entryAt (countOf r))) (run .is) ∙ passed-front r event ds ok i
 
-  turn-length : lengthAt xs i ≡ lengthAt r i
-  turn-length = length-same r xs contents-same i h
+    turn-kind : kindAt xs i ≡ kindAt r i
+    turn-kind = kind-same r xs contents-same i h
 
-  pub turn-room : entryAt i + 8 ≤ length xs
-  turn-room = omega (arith, ok .entry i h .inFile, run .same)
+    turn-length : lengthAt xs i ≡ lengthAt r i
+    turn-length = length-same r xs contents-same i h
 
-  module _ (kind len : ℕ) (k : kind ≡ kindAt xs i) (l : len ≡ lengthAt xs i) where
-    turn-part : part at len xs ≡ bodyAt r i
-    turn-part = rw (l ∙ turn-length, run .place, run .is) (passed-part r e ds ok i h)
+    pub turn-room : (i < 64) × (entryAt i + 8 ≤ length xs)
+    turn-room = (omega (arith, ok .head .few, h), omega (arith, ok .entry i h .inFile, run .same))
 
-    -- the place where the next body starts
-    pub turn-end : at + len ≡ startOf r (i + 1)
-    turn-end = omega (arith, run .place, l ∙ turn-length, start-more r i)
+    -- the place behind it is no great number
+    pub turn-small : {len : ℕ} → len ≡ lengthAt xs i → at + len ≤ 65536
+    turn-small l = omega (arith, run .place, l ∙ turn-length, ok .entry i h .small)
 
-    pub turn-inside : at + len ≤ length xs
-    turn-inside = omega (arith, run .place, l ∙ turn-length, run .same, body-inside r (ok .whole) i h)
+    module _ {kind : Kind} {len : ℕ} (k : kind ≡ kindAt xs i) (l : len ≡ lengthAt xs i) where
+      turn-part : part at len xs ≡ bodyAt r i
+      turn-part = rw (l ∙ turn-length, run .place, run .is) (passed-part r event ds ok i h)
 
-    pub turn-asks : (at + len ≤ length xs) × TagFine kind (part at len xs)
-    turn-asks = (turn-inside, rw (turn-part, k ∙ turn-kind) (tag-fine r ok i h))
+      -- the place where the next body starts
+      turn-end : at + len ≡ startOf r (i + 1)
+      turn-end = omega (arith, run .place, l ∙ turn-length, start-more r i)
 
-    module _ (q : Said) (ys : List ℕ) (p : q ≡ saidBy kind e (getD ds i 0) (part at len xs))
-        (b : ys ≡ splice at len (nextBody kind e (getD ds i 0) (part at len xs)) xs) (n : length ys ≡ length xs) where
-      turn-said : q ≡ saidBy (kindAt r i) e (getD ds i 0) (bodyAt r i)
-      turn-said = p ∙ rw (turn-part, k ∙ turn-kind)
+      pub turn-asks : (at + len ≤ length xs) × TagFine kind (part at len xs)
+      turn-asks =
+          (omega (arith, run .place, l ∙ turn-length, run .same, body-inside r (ok .whole) i h), rw (turn-part, k ∙ turn-kind) (tag-fine r ok i h))
 
-      turn-rack : ys ≡ passed r e ds (i + 1)
-      unfolding next
-      turn-rack = b ∙ rw (turn-part, k ∙ turn-kind, l ∙ turn-length, run .place, run .is) (passed-more r e ds ok i h)
+      module _ {q : Said} {ys : List ℕ} (p : q ≡ saidBy kind event (getD ds i 0) (part at len xs))
+          (b : ys ≡ splice at len (nextBody kind event (getD ds i 0) (part at len xs)) xs) (n : length ys ≡ length xs) where
+        turn-said : q ≡ saidBy (kindAt r i) event (getD ds i 0) (bodyAt r i)
+        turn-said = p ∙ rw (turn-part, k ∙ turn-kind)
 
-      pub turn-spoken : speaks q ≡ true → Running r e ds ys (i + 1) (a + 1) i q (at + len)
-      turn-spoken z =
-          record {
-            upto = omega arith;
-            most = omega (arith, run .most);
-            is = turn-rack;
-            same = n ∙ run .same;
-            place = turn-end;
-            heard = heard-spoken r e ds i a w said q (run .heard) turn-said z;
-          }
+        -- whatever was heard with this tag
+        turn : {a w : ℕ} {s : Said} → a ≤ i + 1 → PassOf r event ds (i + 1) a w s → Running r event ds ys (i + 1) a w s (at + len)
+        unfolding next
+        turn most pass =
+            record {
+              upto = omega arith;
+              most = most;
+              is = b ∙ rw (turn-part, k ∙ turn-kind, l ∙ turn-length, run .place, run .is) (passed-more r event ds ok i h);
+              same = n ∙ run .same;
+              place = turn-end;
+              pass = pass;
+            }
 
-      pub turn-silent : speaks q ≡ false → Running r e ds ys (i + 1) a w said (at + len)
-      turn-silent z =
-          record {
-            upto = omega arith;
-            most = omega (arith, run .most);
-            is = turn-rack;
-            same = n ∙ run .same;
-            place = turn-end;
-            heard = heard-silent r e ds i a w said q (run .heard) turn-said z;
-          }
+        pub turn-spoken : speaks q ≡ true → Running r event ds ys (i + 1) (answered + 1) i q (at + len)
+        turn-spoken z = turn (omega (arith, run .most)) (pass-spoken r event ds i answered who said q (run .pass) turn-said z)
 
--- ---- the end of the loop
-
-pub running-done : (r : List ℕ) (e : Event) (ds xs : List ℕ) (i a w : ℕ) (said : Said) (at : ℕ) → RackFine r → Running r e ds xs i a w said at
-    → countOf r ≤ i → HeardOf r e ds (countOf r) a w said × (xs ≡ nextRack r e ds)
-running-done r e ds xs i a w said at ok run h =
-    let z : i ≡ countOf r = omega (arith, run .upto) in
-    (rw z at (run .heard), run .is ∙ ap (passed r e ds) z ∙ passed-all r e ds ok)
+        pub turn-silent : speaks q ≡ false → Running r event ds ys (i + 1) answered who said (at + len)
+        turn-silent z = turn (omega (arith, run .most)) (pass-silent r event ds i answered who said q (run .pass) turn-said z)

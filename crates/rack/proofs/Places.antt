@@ -13,7 +13,7 @@ use lib.Seq.{drop-at, take-at, take-take, getD-take, drop-append-le, take-append
 use Rattle.frame.specs.Choose.{gather}
 use Rattle.frame.specs.Number.{num, part, splice}
 use Rattle.frame.proofs.Lists.{gather-none, gather-suc}
-use Rattle.rack.specs.File.{countOf, entryAt, kindAt, lengthAt, offsetAt, startOf, contents}
+use Rattle.rack.specs.File.{countOf, entryAt, kindOf, kindAt, lengthAt, offsetAt, startOf, contents}
 
 -- ---- parts
 
@@ -85,7 +85,7 @@ module _ (r x : List ℕ) (front : take (entryAt (countOf r)) x ≡ contents r) 
   count-same = same-read (entryAt (countOf r)) x r front 1 (omega arith)
 
   pub kind-same : (i : ℕ) → i < countOf r → kindAt x i ≡ kindAt r i
-  kind-same i h = same-read (entryAt (countOf r)) x r front (entryAt i) (omega arith)
+  kind-same i h = ap kindOf (same-read (entryAt (countOf r)) x r front (entryAt i) (omega arith))
 
   pub length-same : (i : ℕ) → i < countOf r → lengthAt x i ≡ lengthAt r i
   length-same i h = ap num (same-part (entryAt (countOf r)) x r front (entryAt i + 2) 2 (omega arith))

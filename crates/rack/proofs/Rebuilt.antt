@@ -1,21 +1,26 @@
 -- A rack is its contents and a function from index to body: every law of a rack as a whole is here, so that what follows speaks of bodies
--- alone. By induction on the number of bodies; where bodies keep their lengths, each stands where it stood.
--- Assumes nothing.
+-- alone. By induction on the number of bodies; where bodies keep their lengths, each stands where it stood, and a fine rack stays fine with
+-- other fine bodies. Assumes nothing.
 use mathlib.Core.Path.{_≡_, ap, sym, _∙_}
 use mathlib.Core.Logic.{⊎-elim}
 use mathlib.Core.List.{List, _++_, append-assoc, append-nil}
 use Prim.Native.Nat.{ℕ, zero, suc, _+_, _≤_, _<_}
 use native.Mathlib.Nat.{eq-or-lt-of-le}
 use native.Mathlib.Omega.{arith}
-use lib.ListN.{length, take, length-append}
+use lib.ListN.{length, getD, take, length-append}
 use lib.Seq.{take-at, take-all, take-add, length-take-le}
 use Rattle.frame.specs.Choose.{gather}
+use Rattle.frame.specs.Judge.{fine}
 use Rattle.frame.specs.Number.{part, Bytes}
+use Rattle.frame.specs.declared.verdict.Verdict.{Verdict}
 use Rattle.frame.proofs.Lists.{gather-none, gather-suc}
 use Rattle.frame.proofs.Numbers.{bytes-take, bytes-append}
 use Rattle.frame.proofs.Stores.{length-part}
-use Rattle.rack.specs.File.{countOf, entryAt, kindAt, lengthAt, offsetAt, startOf, bodyAt, contents, rebuilt}
-use Rattle.rack.proofs.Places.{part-at, part-in, gather-ext, start-none, start-suc, start-low, start-mono, count-same, kind-same, length-same, offset-same, start-same}
+use Rattle.rack.specs.File.{countOf, entryAt, kindAt, lengthAt, offsetAt, startOf, bodyAt, contents, rebuilt, headVerdict, entryVerdict, bodyRules}
+use Rattle.rack.specs.Facts.{BodyFine, RackFine, TagFine}
+use Rattle.rack.proofs.Places.{part-at, part-in, gather-ext, start-none, start-suc, start-low, start-mono}
+use Rattle.rack.proofs.Places.{same-read, count-same, kind-same, length-same, offset-same, start-same}
+use Rattle.rack.proofs.Verdicts.{head-fine, entry-fine, body-fine, body-is, moved-fine}
 
 -- ---- the bodies of r and their lengths
 module _ (r : List ℕ) (whole : startOf r (countOf r) ≡ length r) where
@@ -122,3 +127,53 @@ gather-bytes (suc n) g h = rw gather-suc (bytes-append (gather n g) (g n) (gathe
 pub rebuilt-bytes : (r : List ℕ) (g : ℕ → List ℕ) → Bytes r → ((i : ℕ) → i < countOf r → Bytes (g i)) → Bytes (rebuilt r g)
 unfolding rebuilt
 rebuilt-bytes r g b h = bytes-append (contents r) (gather (countOf r) g) (bytes-take (entryAt (countOf r)) r b) (gather-bytes (countOf r) g h)
+
+-- ---- verdicts of two racks with the same contents and length
+module _ (r x : List ℕ) (same : length x ≡ length r) (front : take (entryAt (countOf r)) x ≡ contents r) where
+  reads : (j : ℕ) → j < entryAt (countOf r) → getD x j 0 ≡ getD r j 0
+  reads = same-read (entryAt (countOf r)) x r front
+
+  pub head-same : headVerdict x ≡ headVerdict r
+  unfolding headVerdict
+  head-same = rw (same, reads 0 (omega arith), count-same r x front)
+
+  pub entry-same : (i : ℕ) → i < countOf r → entryVerdict x i ≡ entryVerdict r i
+  unfolding entryVerdict
+  entry-same i h =
+      rw (
+        same,
+        kind-same r x front i h,
+        reads (entryAt i + 1) (omega arith),
+        length-same r x front i h,
+        offset-same r x front i h,
+        start-same r x front i (omega arith),
+      )
+
+-- ---- a fine rack with other fine bodies is fine
+module _ (r : List ℕ) (g : ℕ → List ℕ) (ok : RackFine r) (sized : (i : ℕ) → i < countOf r → length (g i) ≡ lengthAt r i)
+    (tags : (i : ℕ) → i < countOf r → TagFine (kindAt r i) (g i)) where
+  number : (v w : Verdict) → v ≡ w → w ≡ fine → v .number ≡ 0
+  number v w p q = ap (λ (u : Verdict). u .number) (p ∙ q)
+
+  inside : (i : ℕ) → i < countOf r → BodyFine (rebuilt r g) i
+  inside i h =
+      let x = rebuilt r g in
+      let n = rebuilt-count r (ok .whole) g sized in
+      let m : i < countOf x = omega (arith, n) in
+      let z : bodyRules (kindAt x i) (bodyAt x i) .number ≡ 0 =
+      rw (rebuilt-kind r (ok .whole) g sized i h, rebuilt-body r (ok .whole) g sized i h) (tags i h .rules) in
+      let e = body-is x i (body-inside x (rebuilt-whole r (ok .whole) g sized) i m) in
+      body-fine x i (number _ _ e (moved-fine (startOf x i) (bodyRules (kindAt x i) (bodyAt x i)) z))
+
+  pub rebuilt-fine : RackFine (rebuilt r g)
+  rebuilt-fine =
+      let x = rebuilt r g in
+      let front = rebuilt-front r (ok .whole) g sized in
+      let same = rebuilt-length r (ok .whole) g sized in
+      let n = rebuilt-count r (ok .whole) g sized in
+      record {
+        head = head-fine x (number _ _ (head-same r x same front) (ok .head .isFine));
+        entry = λ i h. let b : i < countOf r = omega (arith, n) in entry-fine x i (number _ _ (entry-same r x same front i b) (ok .entry i b .isFine));
+        body = λ i h. inside i (omega (arith, n));
+        whole = rebuilt-whole r (ok .whole) g sized;
+      }

@@ -1,21 +1,21 @@
--- The verdict on a rack file: what a fine verdict tells of each part, by the tests of that part (`rack-fine`), and back (`fine-rack`); a loop
--- over entries or bodies that stops at the first offence, by one record (`Judging`).
+-- The verdict on a rack file: what a fine verdict tells of each part, by the tests of that part (`rack-fine`), and back (`fine-rack`).
 -- Assumes nothing.
 use mathlib.Core.Path.{_≡_, refl, ap, sym, _∙_}
 use mathlib.Core.List.{List}
-use mathlib.Core.Bool.{Bool, true, false, not, _||_}
-use Prim.Native.Nat.{ℕ, zero, suc, _+_, _*_, _-_, _≤_, _<_}
+use mathlib.Core.Bool.{Bool, true, false, not}
+use Prim.Native.Nat.{ℕ, zero, suc, _+_, _≤_, _<_}
 use native.Mathlib.Nat.{le-antisymm}
 use native.Mathlib.Omega.{arith}
 use borrow.Author.Tests.{eq-eqb, ne-eqb, eqb-true, lt-ltb, le-ltb, ltb-false, not-false}
 use lib.Dec.{eqb, ltb}
-use lib.ListN.{length, getD, take, drop}
+use lib.ListN.{length, getD}
 use Rattle.frame.specs.Judge.{fine, bad, firstOf}
 use Rattle.frame.specs.declared.verdict.Verdict.{Verdict}
-use Rattle.frame.proofs.Verdicts.{if-fine, else-fine, else-bad, else-next, not-none, first-none, first-more, first-stops, first-each, first-all}
-use Rattle.rack.specs.File.{countOf, entryAt, kindAt, lengthAt, offsetAt, startOf, bodyAt, lengthFits, headVerdict, entryVerdict, bodyRules, moved, bodyVerdict, endVerdict, verdictOf}
+use Rattle.frame.proofs.Verdicts.{if-fine, else-fine, else-bad, else-next, not-none, first-each, first-all}
+use Rattle.rack.specs.File.{countOf, entryAt, kindAt, lengthAt, offsetAt, startOf, bodyAt}
+use Rattle.rack.specs.File.{known, lengthFits, headVerdict, entryVerdict, bodyRules, moved, bodyVerdict, endVerdict, verdictOf}
 use Rattle.rack.specs.Facts.{HeadFine, EntryFine, EntriesFine, BodyFine, RackFine}
-use Rattle.rack.proofs.Places.{start-none, start-suc, start-more, span-part}
+use Rattle.rack.proofs.Places.{start-none, start-suc}
 
 -- ---- what a fine part tells
 
@@ -31,7 +31,7 @@ pub entry-fine : (r : List ℕ) (i : ℕ) → entryVerdict r i .number ≡ 0 →
 unfolding entryVerdict
 entry-fine r i e =
     let t1 = if-fine (ltb (length r) (entryAt i + 8)) 10 (length r) _ (not-none 9) e in
-    let t2 = if-fine (not (eqb (kindAt r i) 1 || eqb (kindAt r i) 2)) 12 (entryAt i) _ (not-none 11) (t1 .1) in
+    let t2 = if-fine (not (known (kindAt r i))) 12 (entryAt i) _ (not-none 11) (t1 .1) in
     let t3 = if-fine (not (eqb (getD r (entryAt i + 1) 0) 0)) 12 (entryAt i + 1) _ (not-none 11) (t2 .1) in
     let t4 = if-fine (not (lengthFits (kindAt r i) (lengthAt r i))) 12 (entryAt i + 2) _ (not-none 11) (t3 .1) in
     let t5 = if-fine (ltb 65536 (startOf r i + lengthAt r i)) 12 (entryAt i + 2) _ (not-none 11) (t4 .1) in
@@ -84,87 +84,9 @@ end-fine : (r : List ℕ) → endVerdict r .number ≡ 0 → length r ≤ startO
 unfolding endVerdict
 end-fine r e = ltb-false _ _ (if-fine (ltb (startOf r (countOf r)) (length r)) 14 (startOf r (countOf r)) _ (not-none 13) e .0)
 
--- ---- one body, as the code lends and judges it
-
--- the part that is lent is body i
-pub span-body : (r : List ℕ) (i at len : ℕ) → at ≡ startOf r i → len ≡ lengthAt r i → take ((at + len) - at) (drop at r) ≡ bodyAt r i
-span-body r i at len p q = span-part at len r ∙ rw (p, q)
-
--- its verdict, by the verdict v on the part
-module _ (r : List ℕ) (i at len : ℕ) (v : Verdict) (p : at ≡ startOf r i) (q : len ≡ lengthAt r i) where
-  pub judged-short : length r < at + len → bad 10 (length r) ≡ bodyVerdict r i
-  judged-short h = sym (body-short r i (omega (arith, p, q)))
-
-  module _ (h : at + len ≤ length r) (e : v ≡ bodyRules (kindAt r i) (take ((at + len) - at) (drop at r))) where
-    judged : bodyVerdict r i ≡ moved at v
-    judged = body-is r i (omega (arith, p, q)) ∙ rw (e, span-body r i at len p q, p)
-
-    pub judged-fine : v .number ≡ 0 → fine ≡ bodyVerdict r i
-    judged-fine z = sym (judged ∙ moved-fine at v z)
-
-    pub judged-bad : (v .number ≡ 0 → ⊥) → bad (v .number) (at + v .place) ≡ bodyVerdict r i
-    judged-bad z = sym (judged ∙ moved-bad at v z)
-
--- ---- the loop over entries, or over bodies, while nothing has offended
-
-pub record Judging (r : List ℕ) (f : ℕ → Verdict) (at i : ℕ) : Type 0 where
-  pub upto : i ≤ countOf r
-  pub start : at ≡ startOf r i
-  pub small : at ≤ 65536
-  pub none : firstOf i f ≡ fine
-
-pub judging-none : (r : List ℕ) (f : ℕ → Verdict) (n : ℕ) → HeadFine r → n ≡ countOf r → Judging r f (2 + 8 * n) 0
-judging-none r f n h e =
-    record { upto = omega arith; start = rw e (sym (start-none r)); small = omega (arith, h .few); none = first-none f }
-
-pub judging-more : (r : List ℕ) (f : ℕ → Verdict) (at i len : ℕ) → Judging r f at i → i < countOf r → EntryFine r i → len ≡ lengthAt r i → f i ≡ fine
-    → Judging r f (at + len) (i + 1)
-judging-more r f at i len j h e l z =
-    record {
-      upto = omega arith;
-      start = omega (arith, start-more r i, j .start);
-      small = omega (arith, e .small, j .start);
-      none = first-more f i (j .none) z;
-    }
-
-pub judging-done : (r : List ℕ) (f : ℕ → Verdict) (at i : ℕ) → Judging r f at i → countOf r ≤ i → fine ≡ firstOf (countOf r) f
-judging-done r f at i j h =
-    let z : i ≡ countOf r = omega (arith, j .upto) in
-    sym (rw z at (j .none))
-
-pub judging-bad : (r : List ℕ) (f : ℕ → Verdict) (at i : ℕ) (v : Verdict) → Judging r f at i → i < countOf r → v ≡ f i → (v .number ≡ 0 → ⊥)
-    → v ≡ firstOf (countOf r) f
-judging-bad r f at i v j h e z =
-    e ∙ sym (first-stops f (countOf r) i h (j .none) (λ (y : f i .number ≡ 0). z (ap (λ (u : Verdict). u .number) e ∙ y)))
-
--- ---- the end
-
--- the last entry says where the last body ends
-pub last-end : (r : List ℕ) (n : ℕ) → EntriesFine r → n ≡ countOf r → 0 < n
-    → offsetAt r (n - 1) + lengthAt r (n - 1) ≡ startOf r (countOf r)
-last-end r n ok e p =
-    let q : n - 1 + 1 ≡ countOf r = omega arith in
-    ap (λ (k : ℕ). k + lengthAt r (n - 1)) (ok (n - 1) (omega arith) .placed) ∙ sym (start-more r (n - 1)) ∙ ap (startOf r) q
-
-pub start-fits : (r : List ℕ) → HeadFine r → EntriesFine r → startOf r (countOf r) ≤ 65536
-start-fits r h ok = go (countOf r) refl
-  where
-    go : (m : ℕ) → m ≡ countOf r → startOf r (countOf r) ≤ 65536
-    go zero q = rw (← q) (omega (arith, start-none r, h .few))
-    go (suc m) q = rw (← q) (omega (arith, start-suc r m, ok m (omega arith) .small))
-
--- no body
-pub empty-end : (r : List ℕ) (n : ℕ) → n ≡ countOf r → n ≡ 0 → 2 ≡ startOf r (countOf r)
-empty-end r n e z = omega (arith, ap (startOf r) (sym e ∙ z) ∙ start-none r)
-
-module _ (r : List ℕ) (end : ℕ) (e : end ≡ startOf r (countOf r)) where
-  pub end-bad : end < length r → bad 14 end ≡ endVerdict r
-  unfolding endVerdict
-  end-bad h = rw (e, lt-ltb _ _ (rw e at h))
-
-  pub end-good : length r ≤ end → fine ≡ endVerdict r
-  unfolding endVerdict
-  end-good h = rw (le-ltb _ _ (rw e at h))
+pub end-good : (r : List ℕ) (end : ℕ) → end ≡ startOf r (countOf r) → length r ≤ end → fine ≡ endVerdict r
+unfolding endVerdict
+end-good r end e h = rw (le-ltb _ _ (rw e at h))
 
 -- ---- the verdict, by the part that offends first
 module _ (r : List ℕ) (v : Verdict) where

@@ -1,8 +1,7 @@
 -- Document 01, "Events" and "Numbers a call can come back with": what an event does to a rack, and what it reports. Assumes nothing.
-use mathlib.Core.Path.{_≡_}
-use mathlib.Core.Bool.{Bool, true, not, _&&_}
+use mathlib.Core.Bool.{Bool, false, not, _&&_}
 use mathlib.Core.List.{List, [], _∷_, _++_}
-use Prim.Native.Nat.{ℕ, _<_}
+use Prim.Native.Nat.{ℕ}
 use lib.Dec.{eqb, ltb, leb}
 use lib.ListN.{length, getD, drop}
 use Rattle.frame.specs.Choose.{if_then_else_, gather}
@@ -13,6 +12,8 @@ use Rattle.request.specs.Signal.{signalOf}
 use Rattle.request.specs.declared.signal.Signal.{Signal}
 use Rattle.chip.specs.Body.{nextChip, saidChip}
 use Rattle.chip.specs.Answer as chip
+use Rattle.rack.specs.declared.tag.Kind.{Kind}
+use Rattle.rack.specs.declared.tag.Kind.the-variants.{Label, Chip, Other}
 use Rattle.rack.specs.declared.tag.Said.{Said}
 use Rattle.rack.specs.declared.tag.Said.the-variants as s
 use Rattle.rack.specs.declared.event.Report.{Report}
@@ -28,44 +29,50 @@ pub record Event : Type 0 where
 abbrev pub carrying : Signal → List ℕ → Event
 carrying signal bytes = record { signal = signal; bytes = bytes }
 
--- event e with frame f
+-- event `number` with frame f
 abbrev pub aired : ℕ → List ℕ → Event
-aired e f = carrying (signalOf e f) (dataOf f)
+aired number f = carrying (signalOf number f) (dataOf f)
 
 -- a tag's next body follows from its old body, the event and its draw alone
-unfoldable pub nextBody : ℕ → Event → ℕ → List ℕ → List ℕ
-nextBody kind e d b = if eqb kind 2 then nextChip (e .signal .chip) d b else nextLabel (e .signal .label) (e .bytes) b
+unfoldable pub nextBody : Kind → Event → ℕ → List ℕ → List ℕ
+nextBody Label event d b = nextLabel (event .signal .label) (event .bytes) b
+nextBody Chip event d b = nextChip (event .signal .chip) d b
+nextBody Other event d b = b
 
 -- what it says
-unfoldable pub saidBy : ℕ → Event → ℕ → List ℕ → Said
-saidBy kind e d b = if eqb kind 2 then s.Chip (saidChip (e .signal .chip) d b) else s.Label (saidLabel (e .signal .label) (length (e .bytes)) b)
+unfoldable pub saidBy : Kind → Event → ℕ → List ℕ → Said
+saidBy Label event d b = s.Label (saidLabel (event .signal .label) (length (event .bytes)) b)
+saidBy Chip event d b = s.Chip (saidChip (event .signal .chip) d b)
+saidBy Other event d b = s.Nothing
 
 unfoldable pub speaks : Said → Bool
+speaks s.Nothing = false
 speaks (s.Label a) = label.speaks a
 speaks (s.Chip a) = chip.speaks a
 
 unfoldable pub frameOf : Said → List ℕ → List ℕ
+frameOf s.Nothing b = []
 frameOf (s.Label a) b = label.answerFrame a b
 frameOf (s.Chip a) b = chip.answerFrame a b
 
 -- none, or one frame
-unfoldable pub answerBody : ℕ → Event → ℕ → List ℕ → List (List ℕ)
-answerBody kind e d b = if speaks (saidBy kind e d b) then frameOf (saidBy kind e d b) b ∷ [] else []
+unfoldable pub answerBody : Kind → Event → ℕ → List ℕ → List (List ℕ)
+answerBody kind event d b = if speaks (saidBy kind event d b) then frameOf (saidBy kind event d b) b ∷ [] else []
 
 -- ---- all tags; entry i uses draw i
 
 unfoldable pub next : List ℕ → Event → List ℕ → ℕ → List ℕ
-next r e ds i = nextBody (kindAt r i) e (getD ds i 0) (bodyAt r i)
+next r event ds i = nextBody (kindAt r i) event (getD ds i 0) (bodyAt r i)
 
 unfoldable pub answer : List ℕ → Event → List ℕ → ℕ → List (List ℕ)
-answer r e ds i = answerBody (kindAt r i) e (getD ds i 0) (bodyAt r i)
+answer r event ds i = answerBody (kindAt r i) event (getD ds i 0) (bodyAt r i)
 
 -- the contents never change
 unfoldable pub nextRack : List ℕ → Event → List ℕ → List ℕ
-nextRack r e ds = rebuilt r (next r e ds)
+nextRack r event ds = rebuilt r (next r event ds)
 
 unfoldable pub answers : List ℕ → Event → List ℕ → List (List ℕ)
-answers r e ds = gather (countOf r) (answer r e ds)
+answers r event ds = gather (countOf r) (answer r event ds)
 
 -- ---- the call
 
@@ -91,11 +98,11 @@ abbrev pub refused : ℕ → List ℕ → List ℕ → Outcome
 refused n r out = record { report = record { number = n; answered = 0; length = 0 }; rack = r; out = out }
 
 abbrev pub played : List ℕ → Event → List ℕ → List ℕ → Outcome
-played r e ds out =
+played r event ds out =
     record {
-      report = record { number = 0; answered = length (answers r e ds); length = lengthAlone (answers r e ds) };
-      rack = nextRack r e ds;
-      out = opened (answers r e ds) out;
+      report = record { number = 0; answered = length (answers r event ds); length = lengthAlone (answers r event ds) };
+      rack = nextRack r event ds;
+      out = opened (answers r event ds) out;
     }
 
 -- the room that every answer buffer has
@@ -104,27 +111,15 @@ least = 64
 
 -- the lowest number that applies, for so many draws and so much room in the answer buffer; 0: none
 unfoldable pub refusalOf : List ℕ → ℕ → ℕ → ℕ → ℕ
-refusalOf r e draws room =
+refusalOf r number draws room =
     if not (eqb (verdictOf r .number) 0) then 1
     else if not (eqb draws (countOf r)) then 2
     else if ltb room least then 3
-    else if not (leb 1 e && leb e 5) then 4
+    else if not (leb 1 number && leb number 5) then 4
     else 0
 
 -- rack, event number, frame, draws, answer buffer
 unfoldable pub eventOf : List ℕ → ℕ → List ℕ → List ℕ → List ℕ → Outcome
-eventOf r e f ds out =
-    if eqb (refusalOf r e (length ds) (length out)) 0 then played r (aired e f) ds out
-    else refused (refusalOf r e (length ds) (length out)) r out
-
--- ---- what the pass over the first i tags has heard: how many answered, and, of an answer that is alone, from whom
-
-pub record Alone (r : List ℕ) (e : Event) (ds : List ℕ) (i w : ℕ) (said : Said) : Type 0 where
-  pub below : w < i
-  pub says : said ≡ saidBy (kindAt r w) e (getD ds w 0) (bodyAt r w)
-  pub spoke : speaks said ≡ true
-  pub one : gather i (answer r e ds) ≡ frameOf said (bodyAt r w) ∷ []
-
-pub record HeardOf (r : List ℕ) (e : Event) (ds : List ℕ) (i answered w : ℕ) (said : Said) : Type 0 where
-  pub count : answered ≡ length (gather i (answer r e ds))
-  pub alone : answered ≡ 1 → Alone r e ds i w said
+eventOf r number f ds out =
+    if eqb (refusalOf r number (length ds) (length out)) 0 then played r (aired number f) ds out
+    else refused (refusalOf r number (length ds) (length out)) r out

@@ -8,6 +8,7 @@ use Rattle.frame.specs.Judge.{fine}
 use Rattle.frame.specs.Number.{part}
 use Rattle.label.specs.Body.{Sized}
 use Rattle.label.specs.Answer.{Told}
+use Rattle.rack.specs.declared.tag.Kind.{Kind}
 use Rattle.rack.specs.declared.tag.Said.{Said}
 use Rattle.rack.specs.declared.tag.Said.the-variants as s
 use Rattle.rack.specs.File.{countOf, entryAt, kindAt, lengthAt, offsetAt, startOf, bodyAt, headVerdict, entryVerdict, bodyVerdict, bodyRules, lengthFits}
@@ -39,12 +40,13 @@ pub record RackFine (r : List ℕ) : Type 0 where
   pub whole : startOf r (countOf r) ≡ length r
 
 -- a body of its kind that keeps its rules
-pub record TagFine (kind : ℕ) (b : List ℕ) : Type 0 where
+pub record TagFine (kind : Kind) (b : List ℕ) : Type 0 where
   pub fits : lengthFits kind (length b) ≡ true
   pub rules : bodyRules kind b .number ≡ 0
 
 -- something that a body can say: what the answer's writer needs
 unfoldable pub Sayable : Said → List ℕ → Type 0
+Sayable s.Nothing b = Unit
 Sayable (s.Label a) b = Sized b × Told a b
 Sayable (s.Chip a) b = 80 ≤ length b
 

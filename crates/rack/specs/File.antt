@@ -1,5 +1,5 @@
 -- Document 01, "Rack file": what is read where, and the first offence in file order (the parts and places of document 02, P5). Assumes nothing.
-use mathlib.Core.Bool.{Bool, not, _&&_, _||_}
+use mathlib.Core.Bool.{Bool, true, false, not, _&&_}
 use mathlib.Core.List.{List, _++_}
 use Prim.Native.Nat.{ℕ, zero, suc, _+_, _*_}
 use lib.Dec.{eqb, ltb, leb}
@@ -10,6 +10,8 @@ use Rattle.frame.specs.Judge.{fine, bad, orElse, firstOf}
 use Rattle.frame.specs.declared.verdict.Verdict.{Verdict}
 use Rattle.label.specs.Body.{labelRules}
 use Rattle.chip.specs.Body.{chipRules}
+use Rattle.rack.specs.declared.tag.Kind.{Kind}
+use Rattle.rack.specs.declared.tag.Kind.the-variants.{Label, Chip, Other}
 
 -- ---- what stands where
 
@@ -21,8 +23,11 @@ countOf r = getD r 1 0
 abbrev pub entryAt : ℕ → ℕ
 entryAt i = 2 + 8 * i
 
-abbrev pub kindAt : List ℕ → ℕ → ℕ
-kindAt r i = getD r (entryAt i) 0
+unfoldable pub kindOf : ℕ → Kind
+kindOf n = if eqb n 1 then Label else if eqb n 2 then Chip else Other
+
+abbrev pub kindAt : List ℕ → ℕ → Kind
+kindAt r i = kindOf (getD r (entryAt i) 0)
 
 abbrev pub lengthAt : List ℕ → ℕ → ℕ
 lengthAt r i = num (part (entryAt i + 2) 2 r)
@@ -55,15 +60,22 @@ headVerdict r =
     else if ltb 64 (countOf r) then bad 11 1
     else fine
 
--- a chip's body has 80 bytes, a label's 34 to 8,480
-unfoldable pub lengthFits : ℕ → ℕ → Bool
-lengthFits kind len = if eqb kind 2 then eqb len 80 else leb 34 len && leb len 8480
+abbrev pub known : Kind → Bool
+known Label = true
+known Chip = true
+known Other = false
+
+-- a label's body has 34 to 8,480 bytes, a chip's 80
+unfoldable pub lengthFits : Kind → ℕ → Bool
+lengthFits Label len = leb 34 len && leb len 8480
+lengthFits Chip len = eqb len 80
+lengthFits Other len = false
 
 -- kind, zero, length, at most 65,536 bytes, offset
 unfoldable pub entryVerdict : List ℕ → ℕ → Verdict
 entryVerdict r i =
     if ltb (length r) (entryAt i + 8) then bad 10 (length r)
-    else if not (eqb (kindAt r i) 1 || eqb (kindAt r i) 2) then bad 12 (entryAt i)
+    else if not (known (kindAt r i)) then bad 12 (entryAt i)
     else if not (eqb (getD r (entryAt i + 1) 0) 0) then bad 12 (entryAt i + 1)
     else if not (lengthFits (kindAt r i) (lengthAt r i)) then bad 12 (entryAt i + 2)
     else if ltb 65536 (startOf r i + lengthAt r i) then bad 12 (entryAt i + 2)
@@ -71,8 +83,10 @@ entryVerdict r i =
     else fine
 
 -- the rules of a body, by its kind; places count from the body's start
-unfoldable pub bodyRules : ℕ → List ℕ → Verdict
-bodyRules kind b = if eqb kind 2 then chipRules b else labelRules b
+unfoldable pub bodyRules : Kind → List ℕ → Verdict
+bodyRules Label b = labelRules b
+bodyRules Chip b = chipRules b
+bodyRules Other b = fine
 
 -- the verdict on what starts at a place, as a verdict on the file
 unfoldable pub moved : ℕ → Verdict → Verdict

@@ -2,3 +2,4 @@
 pub mod File
 pub mod Facts
 pub mod Event
+pub mod Pass

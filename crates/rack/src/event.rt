@@ -5,6 +5,7 @@ use crate::file::judge;
 use crate::file::kind_of;
 use crate::file::length_of;
 use crate::file::offset_of;
+use crate::tag::Kind;
 use crate::tag::Said;
 use crate::tag::speaking;
 use crate::tag::step_tag;
@@ -19,7 +20,11 @@ ghost use lib.Seq.{sets};
 ghost use Rattle.frame.specs.Number.{part, splice};
 ghost use Rattle.rack.specs.File.{countOf};
 ghost use Rattle.rack.specs.Facts.{RackFine, TagFine, Tellable, bodyOf};
-ghost use Rattle.rack.specs.Event.{carrying, nextBody, saidBy, frameOf, nextRack, HeardOf, refusalOf, eventOf};
+ghost use Rattle.rack.specs.Event.{carrying, nextBody, saidBy, frameOf, nextRack, refusalOf, eventOf};
+ghost use Rattle.rack.specs.Pass.{PassOf};
+
+// The room that every answer buffer has.
+pub const LEAST: usize = 64;
 
 // What an event reports: the refusal's number or 0, how many tags answered, the length of an answer that was alone.
 #[repr(C)]
@@ -30,7 +35,7 @@ pub struct Report {
 }
 
 // What a pass over the tags heard: how many answered, and, of an answer that is alone, from whom.
-struct Heard {
+struct Pass {
     answered: u8,
     who: usize,
     said: Said,
@@ -41,7 +46,7 @@ fn step_at(
     rack: &mut [u8],
     at: usize,
     len: usize,
-    kind: u8,
+    kind: Kind,
     signal: Signal,
     bytes: &[u8],
     draw: u8,
@@ -56,16 +61,16 @@ fn step_at(
 }
 
 // Every tag takes its step in turn: the signal and the bytes are decoded once. Draw i is entry i's.
-fn play(rack: &mut [u8], signal: Signal, bytes: &[u8], draws: &[u8]) -> Heard
+fn play(rack: &mut [u8], signal: Signal, bytes: &[u8], draws: &[u8]) -> Pass
     requires { ⌜ RackFine (now rack) ⌝ }
     requires { ⌜ length (now draws) ≡ countOf (now rack) ⌝ }
-    ensures { λ r. ⌜ HeardOf (now (rack .entry)) (carrying signal (now (bytes .entry))) (now (draws .entry)) (countOf (now (rack .entry))) (r .answered) (r .who) (r .said) ⌝ }
+    ensures { λ r. ⌜ PassOf (now (rack .entry)) (carrying signal (now (bytes .entry))) (now (draws .entry)) (countOf (now (rack .entry))) (r .answered) (r .who) (r .said) ⌝ }
     ensures { λ r. ⌜ now (rack .exit) ≡ nextRack (now (rack .entry)) (carrying signal (now (bytes .entry))) (now (draws .entry)) ⌝ }
 {
     let n = count(rack);
     let mut answered: u8 = 0;
     let mut who: usize = 0;
-    let mut said = Said::Chip(chip::step::Answer::Silent);
+    let mut said = Said::Nothing;
     let mut at = entry_of(n);
     let mut i = 0;
     while i < n {
@@ -80,7 +85,7 @@ fn play(rack: &mut [u8], signal: Signal, bytes: &[u8], draws: &[u8]) -> Heard
         at = at + len;
         i += 1;
     }
-    Heard {
+    Pass {
         answered,
         who,
         said,
@@ -98,7 +103,7 @@ fn refuse(rack: &[u8], number: u8, draws: usize, room: usize) -> u8
     if draws != count(rack) {
         return 2;
     }
-    if room < 64 {
+    if room < LEAST {
         return 3;
     }
     if number < 1 {
@@ -135,16 +140,16 @@ pub fn event(rack: &mut [u8], number: u8, frame: &[u8], draws: &[u8], answer: &m
         };
     }
     let signal = hear(number, frame);
-    let heard = play(rack, signal, data_of(frame), draws);
-    if heard.answered != 1 {
+    let pass = play(rack, signal, data_of(frame), draws);
+    if pass.answered != 1 {
         return Report {
             number: 0,
-            answered: heard.answered,
+            answered: pass.answered,
             length: 0,
         };
     }
-    let said = heard.said;
-    let n = tell(rack, heard.who, said, answer);
+    let said = pass.said;
+    let n = tell(rack, pass.who, said, answer);
     Report {
         number: 0,
         answered: 1,

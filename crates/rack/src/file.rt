@@ -1,16 +1,18 @@
 // The rules of the rack file, judged in file order.
+use crate::tag::Kind;
+use crate::tag::fits;
+use crate::tag::is_known;
 use crate::tag::judge_tag;
+use crate::tag::kind_from;
 use frame::number::number_at;
 use frame::verdict::Verdict;
 use frame::verdict::good;
 use frame::verdict::offence;
 ghost use mathlib.Core.Path.{_≡_};
-ghost use mathlib.Core.Bool.{true, _||_};
-ghost use Prim.Native.Nat.{_+_, _*_, _≤_, _<_};
-ghost use lib.Dec.{eqb};
+ghost use Prim.Native.Nat.{_+_, _≤_, _<_};
 ghost use lib.ListN.{length};
 ghost use Rattle.frame.specs.Judge.{firstOf};
-ghost use Rattle.rack.specs.File.{countOf, entryAt, kindAt, lengthAt, offsetAt, startOf, lengthFits, headVerdict, entryVerdict, bodyVerdict, endVerdict, verdictOf};
+ghost use Rattle.rack.specs.File.{countOf, entryAt, kindAt, lengthAt, offsetAt, startOf, headVerdict, entryVerdict, bodyVerdict, endVerdict, verdictOf};
 ghost use Rattle.rack.specs.Facts.{HeadFine, EntryFine, EntriesFine};
 
 // The number of tags.
@@ -30,11 +32,11 @@ pub fn entry_of(i: usize) -> usize
 }
 
 // The kind of tag i, from its entry.
-pub fn kind_of(rack: &[u8], i: usize) -> u8
+pub fn kind_of(rack: &[u8], i: usize) -> Kind
     requires { ⌜ (i < 64) × (entryAt i + 8 ≤ length (now rack)) ⌝ }
     ensures { λ r. ⌜ r ≡ kindAt (now (rack .entry)) i ⌝ }
 {
-    rack[2 + 8 * i]
+    kind_from(rack[entry_of(i)])
 }
 
 // The length of body i, from its entry.
@@ -42,7 +44,7 @@ pub fn length_of(rack: &[u8], i: usize) -> usize
     requires { ⌜ (i < 64) × (entryAt i + 8 ≤ length (now rack)) ⌝ }
     ensures { λ r. ⌜ (r ≡ lengthAt (now (rack .entry)) i) × (r < 65536) ⌝ }
 {
-    number_at(rack, 2 + 8 * i + 2, 2) as usize
+    number_at(rack, entry_of(i) + 2, 2) as usize
 }
 
 // The offset of body i, from its entry.
@@ -50,28 +52,7 @@ pub fn offset_of(rack: &[u8], i: usize) -> usize
     requires { ⌜ (i < 64) × (entryAt i + 8 ≤ length (now rack)) ⌝ }
     ensures { λ r. ⌜ r ≡ offsetAt (now (rack .entry)) i ⌝ }
 {
-    number_at(rack, 2 + 8 * i + 4, 4) as usize
-}
-
-fn is_known(kind: u8) -> bool
-    ensures { λ r. ⌜ r ≡ (eqb kind 1 || eqb kind 2) ⌝ }
-{
-    if kind == 1 {
-        return true;
-    }
-    kind == 2
-}
-
-fn fits(kind: u8, len: usize) -> bool
-    ensures { λ r. ⌜ r ≡ lengthFits kind len ⌝ }
-{
-    if kind == 2 {
-        return len == 80;
-    }
-    if len < 34 {
-        return false;
-    }
-    len <= 8480
+    number_at(rack, entry_of(i) + 4, 4) as usize
 }
 
 fn judge_head(rack: &[u8]) -> Verdict
@@ -95,26 +76,26 @@ fn judge_entry(rack: &[u8], i: usize, at: usize) -> Verdict
     requires { ⌜ at ≡ startOf (now rack) i ⌝ }
     ensures { λ r. ⌜ r ≡ entryVerdict (now (rack .entry)) i ⌝ }
 {
-    let e = 2 + 8 * i;
-    if rack.len() < e + 8 {
+    let entry = entry_of(i);
+    if rack.len() < entry + 8 {
         return offence(10, rack.len());
     }
-    let kind = rack[e];
+    let kind = kind_of(rack, i);
     if !is_known(kind) {
-        return offence(12, e);
+        return offence(12, entry);
     }
-    if rack[e + 1] != 0 {
-        return offence(12, e + 1);
+    if rack[entry + 1] != 0 {
+        return offence(12, entry + 1);
     }
     let len = length_of(rack, i);
     if !fits(kind, len) {
-        return offence(12, e + 2);
+        return offence(12, entry + 2);
     }
     if 65536 < at + len {
-        return offence(12, e + 2);
+        return offence(12, entry + 2);
     }
     if offset_of(rack, i) != at {
-        return offence(12, e + 4);
+        return offence(12, entry + 4);
     }
     good()
 }
@@ -125,7 +106,7 @@ fn judge_body(rack: &[u8], i: usize, at: usize) -> Verdict
     requires { ⌜ (i < 64) × (at ≡ startOf (now rack) i) ⌝ }
     ensures { λ r. ⌜ r ≡ bodyVerdict (now (rack .entry)) i ⌝ }
 {
-    let kind = rack[2 + 8 * i];
+    let kind = kind_of(rack, i);
     let len = length_of(rack, i);
     let end = at + len;
     if rack.len() < end {
@@ -143,7 +124,7 @@ fn judge_entries(rack: &[u8]) -> Verdict
     ensures { λ r. ⌜ r ≡ firstOf (countOf (now (rack .entry))) (entryVerdict (now (rack .entry))) ⌝ }
 {
     let n = count(rack);
-    let mut at = 2 + 8 * n;
+    let mut at = entry_of(n);
     let mut i = 0;
     while i < n {
         let v = judge_entry(rack, i, at);
@@ -162,7 +143,7 @@ fn judge_bodies(rack: &[u8]) -> Verdict
     ensures { λ r. ⌜ r ≡ firstOf (countOf (now (rack .entry))) (bodyVerdict (now (rack .entry))) ⌝ }
 {
     let n = count(rack);
-    let mut at = 2 + 8 * n;
+    let mut at = entry_of(n);
     let mut i = 0;
     while i < n {
         let v = judge_body(rack, i, at);

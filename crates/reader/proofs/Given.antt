@@ -35,7 +35,7 @@ use Rattle.label.specs.Body as label
 use Rattle.label.specs.Locks.{lockOn}
 use Rattle.label.specs.Answer.{speaks, blockBytes, answerFrame}
 use Rattle.label.specs.Facts.{LabelFine}
-use Rattle.label.specs.Slots.{on, during}
+use Rattle.label.specs.Slots.{takesPart, during}
 use Rattle.reader.specs.declared.command.Task.{Task}
 use Rattle.reader.specs.declared.command.Task.the-variants as t
 use Rattle.reader.specs.declared.command.Command.{Command}
@@ -55,7 +55,7 @@ use Rattle.reader.proofs.Gives.{Success, after-slot}
 use Rattle.reader.proofs.Made.{bytes-same, made, Body, made-body}
 use Rattle.label.proofs.Fine.{fine-rules}
 use Rattle.label.proofs.Room.{sized-long}
-use Rattle.label.proofs.Slots.{during-on, during-uid, said-first, said-step, seek-getD, found-frame}
+use Rattle.label.proofs.Slots.{during-taking, during-uid, said-first, said-step, seek-getD, found-frame}
 
 -- ---- a frame that is read
 
@@ -383,7 +383,7 @@ record Seen (family : Family) (mask k : ℕ) (s b : List ℕ) : Type 0 where
   bytes : Bytes b
   ok : LabelFine b
   state : getD b 14 0 ≡ 3
-  takes : on family b ≡ true
+  takes : takesPart family b ≡ true
   ends : endsIn (part 0 8 b) mask k ≡ true
   frame : framed (0 ∷ getD b 8 0 ∷ part 0 8 b) ≡ framed s
 
@@ -391,7 +391,7 @@ abbrev seer : Family → List ℕ → List ℕ
 seer family s = made (part 2 8 s) (getD s 1 0) (familyAfi family) 0 0 0 (0 ∷ [])
 
 seen : (family : Family) (mask k : ℕ) (s : List ℕ) → RangedFamily family → Bytes s → Success (foundOf k mask s) → Seen family mask k s (seer family s)
-unfolding foundOf on
+unfolding foundOf takesPart
 seen family mask k s r bs h =
     let e0 = fits-true (eqb (length s) 10 && (eqb (getD s 0 0) 0 && endsIn (part 2 8 s) mask k)) _ h in
     let e1 = and-both (eqb (length s) 10) (eqb (getD s 0 0) 0 && endsIn (part 2 8 s) mask k) e0 in
@@ -415,9 +415,9 @@ seen family mask k s r bs h =
       frame = ap framed (ap₂ (λ (x : ℕ) (l : List ℕ). 0 ∷ x ∷ l) (y .dsfids) (y .uid) ∙ w);
     }
 
-said-one : (family : Family) (x e n : ℕ) (b : List ℕ) → getD b 14 0 ≡ 3 → on family b ≡ true → endsIn (part 0 8 b) e x ≡ true
+said-one : (family : Family) (x e n : ℕ) (b : List ℕ) → getD b 14 0 ≡ 3 → takesPart family b ≡ true → endsIn (part 0 8 b) e x ≡ true
     → label.saidLabel (bare (k.Inventory family false x e)) n b ≡ a.Found
-unfolding label.saidLabel label.stepped steps.act steps.called steps.inventory steps.ready steps.ended label.loadOf on
+unfolding label.saidLabel label.stepped steps.act steps.called steps.inventory steps.ready steps.ended label.loadOf takesPart
 said-one family x e n b s o q =
     ap (λ (i : Stepped). i .answer)
     (if-false (eqb (getD b 14 0) 0) _ _ (ap (λ (i : ℕ). eqb i 0) s)
@@ -445,11 +445,11 @@ slot-ends : (u : List ℕ) (mask x q : ℕ) → endsIn u mask x ≡ true → num
 unfolding endsInSlot
 slot-ends u mask x q e i = ap₂ _&&_ e (eq-eqb (num u / 2 ^ x % 16) q i)
 
-slot-frame : (family : Family) (x e q : ℕ) (b : List ℕ) → on family b ≡ true
+slot-frame : (family : Family) (x e q : ℕ) (b : List ℕ) → takesPart family b ≡ true
     → answerFrame a.Found (during family x e q b) ≡ framed (0 ∷ getD b 8 0 ∷ part 0 8 b)
 slot-frame family x e q b o =
     found-frame (during family x e q b)
-    ∙ ap₂ (λ (n : ℕ) (l : List ℕ). framed (0 ∷ n ∷ l)) (ap (λ (l : List ℕ). getD l 8 0) (during-on family x e q b o) ∙ seek-getD q x e b 8 (lit< tt))
+    ∙ ap₂ (λ (n : ℕ) (l : List ℕ). framed (0 ∷ n ∷ l)) (ap (λ (l : List ℕ). getD l 8 0) (during-taking family x e q b o) ∙ seek-getD q x e b 8 (lit< tt))
     (during-uid family x e q b)
 
 module _ (to : Target) (opt : Bool) (family : Family) (x mask : ℕ) (uid d f : List ℕ) (v : valid (c.Inventory to opt family true x mask) (length d) ≡ true)
@@ -457,7 +457,7 @@ module _ (to : Target) (opt : Bool) (family : Family) (x mask : ℕ) (uid d f : 
   abbrev g : List ℕ
   g = encode (c.Inventory to opt family true x mask) uid d
 
-  both-true : (q : ℕ) → num (part 0 8 b) / 2 ^ x % 16 ≡ q → (on family b && endsInSlot (part 0 8 b) mask x q) ≡ true
+  both-true : (q : ℕ) → num (part 0 8 b) / 2 ^ x % 16 ≡ q → (takesPart family b && endsInSlot (part 0 8 b) mask x q) ≡ true
   both-true q e = ap₂ _&&_ (w .takes) (slot-ends (part 0 8 b) mask x q (w .ends) e)
 
   first-given : num (part 0 8 b) / 2 ^ x % 16 ≡ 0 → LabelGives g (framed s)
@@ -465,7 +465,7 @@ module _ (to : Target) (opt : Bool) (family : Family) (x mask : ℕ) (uid d f : 
       give g b (framed s) a.Found (w .bytes) (w .ok)
       (ap (λ (i : Request). label.saidLabel i (length (dataOf g)) b) (inventory-meant to opt family true x mask uid d v)
       ∙ said-first family x mask (length (dataOf g)) b
-      ∙ if-true (on family b && endsInSlot (part 0 8 b) mask x 0) a.Found a.Silent (both-true 0 e))
+      ∙ if-true (takesPart family b && endsInSlot (part 0 8 b) mask x 0) a.Found a.Silent (both-true 0 e))
       refl (found-frame b ∙ w .frame)
 
   later-given : (q : ℕ) → q < 15 → num (part 0 8 b) / 2 ^ x % 16 ≡ suc q → SlotGives g (framed s)
@@ -477,7 +477,7 @@ module _ (to : Target) (opt : Bool) (family : Family) (x mask : ℕ) (uid d f : 
       let j : label.saidLabel (bare k.EndOfFrame) 0 (after g b q) ≡ a.Found =
       ap (label.saidLabel (bare k.EndOfFrame) 0) z
       ∙ said-step family x mask b (w .ok) (i .short) (i .low) q 0 h
-      ∙ if-true (on family b && endsInSlot (part 0 8 b) mask x (suc q)) a.Found a.Silent (both-true (suc q) e)
+      ∙ if-true (takesPart family b && endsInSlot (part 0 8 b) mask x (suc q)) a.Found a.Silent (both-true (suc q) e)
       in
       record {
         body = b;

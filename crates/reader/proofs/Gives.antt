@@ -32,7 +32,7 @@ use Rattle.label.specs.Step as steps
 use Rattle.label.specs.Body as label
 use Rattle.label.specs.Answer.{speaks, answerFrame}
 use Rattle.label.specs.Facts.{LabelFine}
-use Rattle.label.specs.Slots.{on, clear, during}
+use Rattle.label.specs.Slots.{takesPart, clear, during}
 use Rattle.request.specs.declared.chip.Order as chipOrder
 use Rattle.chip.specs.declared.step.Chip.{Chip}
 use Rattle.chip.specs.declared.step.Stepped as steppedChip
@@ -221,7 +221,7 @@ abbrev other : List ℕ → Family
 other b = Only (suc (getD b 9 0))
 
 clear-other : (m e s : ℕ) (b : List ℕ) → during (other b) m e s b ≡ clear b
-unfolding during on steps.passes
+unfolding during takesPart steps.passes
 clear-other m e s b =
     rw (
       ne-eqb (suc (getD b 9 0)) 0 (λ q. omega arith),
@@ -276,10 +276,10 @@ module _ (to : Target) (opt : Bool) (family : Family) (m mask : ℕ) (uid : List
       facts : (m ≤ 60) × (mask < 2 ^ m)
       facts = let i = valid-inventory to opt family true m mask n v in (i .short, i .low)
 
-      found : (on family b && endsInSlot (part 0 8 b) mask m (suc s)) ≡ true → Found to opt family true m mask uid n v (during family m mask s b) a.Found
+      found : (takesPart family b && endsInSlot (part 0 8 b) mask m (suc s)) ≡ true → Found to opt family true m mask uid n v (during family m mask s b) a.Found
       found q =
           let u = during-uid family m mask s b in
-          let w = and-both (on family b) (endsInSlot (part 0 8 b) mask m (suc s)) q .1 in
+          let w = and-both (takesPart family b) (endsInSlot (part 0 8 b) mask m (suc s)) q .1 in
           let i = and-both (endsIn (part 0 8 b) mask m) (eqb (num (part 0 8 b) / 2 ^ m % 16) (suc s)) w .0 in
           one-found to opt family true m mask uid n v (during family m mask s b) (ap length u ∙ uid-long b ok)
           (ap (λ (l : List ℕ). endsIn l mask m) u ∙ i)
@@ -287,7 +287,8 @@ module _ (to : Target) (opt : Bool) (family : Family) (m mask : ℕ) (uid : List
       go : (z : Bool) → ltb s 15 ≡ z → Later (during family m mask s b)
       go true e =
           subst (Found to opt family true m mask uid n v (during family m mask s b)) (sym (said-step family m mask b ok (facts .0) (facts .1) s 0 (ltb-true s 15 e)))
-          (if-either (Found to opt family true m mask uid n v (during family m mask s b)) (on family b && endsInSlot (part 0 8 b) mask m (suc s)) _ _ found
+          (if-either (Found to opt family true m mask uid n v (during family m mask s b)) (takesPart family b && endsInSlot (part 0 8 b) mask m (suc s)) _ _
+          found
           (λ q. none-found to opt family true m mask uid n v (during family m mask s b)))
       go false e =
           let w : s ≡ 15 = omega (arith, ltb-false s 15 e, h) in

@@ -1,47 +1,29 @@
--- A tag that takes part and passes has one UID, the first eight bytes of its body; any other has none.
+-- By the kind: only a label has a UID to take.
+use mathlib.Core.Path.{refl, sym}
+use native.Mathlib.Nat.{add-zero}
+use native.Mathlib.Omega.{arith}
 use borrow.Author.Needs.{needs}
-use borrow.Author.Tests.{not-true, not-false}
-use Rattle.inventory.proofs.Gathered.{take-off, take-out, take-some}
+use Rattle.rack.proofs.Tags.{fits-label}
+use Rattle.inventory.specs.Walk.{uidAt}
 use Rattle.inventory.proofs.taking.take_uid.Statement.{statement}
 use Rattle.inventory.proofs.taking.take_uid.Tie as tie
 
-returns : tie.Need-returns
-returns c =
-    let s = c .before .before .before .before in
-    take-off (s .args .rack .now) (s .args .at) (s .args .len) (s .args .kind) (s .pre .0 .1) (s .args .family) (c .before .takes-part .ensures)
-    (s .args .us .now) (s .args .n)
-    (not-true _ (c .if1 .taken))
-
-returns-2 : tie.Need-returns-2
-returns-2 c =
-    let p = c .before .before .before .before in
-    let s = p .before .before .before in
-    take-out (s .args .rack .now) (s .args .at) (s .args .len) (s .args .kind) (s .pre .0 .1) (s .args .family) (p .takes-part .ensures) (s .args .us .now)
-    (s .args .n)
-    (c .before .passing .ensures) (not-false _ (c .before .before .before .if1 .left)) (not-true _ (c .if2 .taken))
-
-returns-3 : tie.Need-returns-3
-returns-3 c =
-    let p = c .before .before .before .before .before in
-    let s = p .before .before .before in
-    take-some (s .args .rack .now) (s .args .at) (s .args .len) (s .args .kind) (s .pre .0 .1) (s .args .family) (p .takes-part .ensures) (s .args .us .now)
-    (s .args .n)
-    (c .before .before .passing .ensures) (not-false _ (c .before .before .before .before .if1 .left)) (not-false _ (c .before .if2 .left))
-    (c .number-at .ensures)
+take-label-requires : tie.Need-take-label-requires
+take-label-requires c κs =
+    let p = c .before .before .before .before .before .pre in
+    let f = p .0 in
+    (omega (arith, fits-label _ (rw (c .before .enum-told .given .1) at f) .0), p .1)
 
 pub take-uid-spec : {M : Type 1} → statement M
+unfolding uidAt
 take-uid-spec =
     tie.close
     (tie.spec
-    (λ c κs. search needs)
-    returns
     (λ c. search needs)
-    (λ c. search needs)
-    (λ c κs. search needs)
-    returns-2
-    (λ c κs. search needs)
+    take-label-requires
     (λ c. search needs)
     (λ c. search needs)
     (λ c. search needs)
-    (λ c. search needs)
-    returns-3)
+    (λ c. rw (c .before .before .before .before .enum-told .given .1) (c .before .before .take-label .ensures))
+    (λ c. rw (c .enum-told2 .given .1) (sym (add-zero _), refl))
+    (λ c. rw (c .enum-told3 .given .1) (sym (add-zero _), refl)))

@@ -15,23 +15,37 @@ count-requires : tie.Need-count-requires
 count-requires c κs =
     rack-fine _ (ap (λ (v : Verdict). v .number) (sym (c .before .before .judge .ensures)) ∙ c .if1 .left) .head .two-bytes
 
+-- from the count back to the verdict
+abbrev judged : tie.After-count → tie.After-judge
+judged c = c .before .before .before
+
 returns-2 : tie.Need-returns-2
-returns-2 c = gives-2 _ _ _ _ _ (c .before .before .before .before .judge .ensures) (c .before .before .if1 .left) _ (c .before .count .ensures) (c .if2 .taken)
+returns-2 c = let n = c .before in gives-2 _ _ _ _ _ (judged n .judge .ensures) (n .before .if1 .left) _ (n .count .ensures) (c .if2 .taken)
 
 returns-3 : tie.Need-returns-3
-returns-3 c = gives-3 _ _ _ _ _ (c .before .before .before .before .before .judge .ensures) (c .before .before .before .if1 .left) _ (c .before .before .count .ensures) (c .before .if2 .left) (c .if3 .taken)
+returns-3 c =
+    let n = c .before .before in
+    gives-3 _ _ _ _ _ (judged n .judge .ensures) (n .before .if1 .left) _ (n .count .ensures) (c .before .if2 .left) (c .if3 .taken)
 
 returns-4 : tie.Need-returns-4
 returns-4 c =
-    gives-4-low _ _ _ _ _ (c .before .before .before .before .before .before .judge .ensures) (c .before .before .before .before .if1 .left) _ (c .before .before .before .count .ensures) (c .before .before .if2 .left) (c .before .if3 .left) (c .if4 .taken)
+    let n = c .before .before .before in
+    gives-4-low _ _ _ _ _ (judged n .judge .ensures) (n .before .if1 .left) _ (n .count .ensures) (c .before .before .if2 .left) (c .before .if3 .left)
+    (c .if4 .taken)
 
 returns-5 : tie.Need-returns-5
 returns-5 c =
-    gives-4-high _ _ _ _ _ (c .before .before .before .before .before .before .before .judge .ensures) (c .before .before .before .before .before .if1 .left) _ (c .before .before .before .before .count .ensures) (c .before .before .before .if2 .left) (c .before .before .if3 .left) (c .before .if4 .left) (c .if5 .taken)
+    let n = c .before .before .before .before in
+    let d = c .before .before .if3 .left in
+    gives-4-high _ _ _ _ _ (judged n .judge .ensures) (n .before .if1 .left) _ (n .count .ensures) (c .before .before .before .if2 .left) d
+    (c .before .if4 .left) (c .if5 .taken)
 
 returns-6 : tie.Need-returns-6
 returns-6 c =
-    gives-0 _ _ _ _ _ (c .before .before .before .before .before .before .before .judge .ensures) (c .before .before .before .before .before .if1 .left) _ (c .before .before .before .before .count .ensures) (c .before .before .before .if2 .left) (c .before .before .if3 .left) (c .before .if4 .left) (c .if5 .left)
+    let n = c .before .before .before .before in
+    let d = c .before .before .if3 .left in
+    gives-0 _ _ _ _ _ (judged n .judge .ensures) (n .before .if1 .left) _ (n .count .ensures) (c .before .before .before .if2 .left) d
+    (c .before .if4 .left) (c .if5 .left)
 
 pub refuse-spec : {M : Type 1} → statement M
 refuse-spec =

@@ -1,70 +1,19 @@
--- Nothing below i has offended (`Judging`), and the next body starts at `at`.
+-- Nothing below i has offended (`Judging`), and body i starts at `at`.
 -- Assumes nothing.
-use mathlib.Core.Path.{sym, _∙_, ap}
-use Prim.Native.Nat.{_-_, _<_}
+use mathlib.Core.Path.{_∙_}
+use Prim.Native.Nat.{_-_}
 use native.Mathlib.Omega.{arith}
-use denote.Ref.{now}
 use borrow.Author.Needs.{needs}
-use Rattle.frame.specs.declared.verdict.Verdict.{Verdict}
-use Rattle.rack.specs.File.{countOf, bodyVerdict}
-use Rattle.rack.specs.Facts.{EntryFine, BodyFine}
-use Rattle.rack.proofs.Verdicts.{body-fine, Judging, judging-none, judging-more, judging-done, judging-bad}
+use Rattle.rack.specs.File.{bodyVerdict}
+use Rattle.rack.proofs.Judging.{judges-bodies, Judging, judging-none, judging-done, turn-few, turn-bad, turn-room, turn-more}
 use Rattle.rack.proofs.file.judge_bodies.Statement.{statement}
 use Rattle.rack.proofs.file.judge_bodies.Tie as tie
 
 abbrev Inv-loop : tie.InvT-loop
-Inv-loop rack n at₀ i₀ at i = Judging rack (bodyVerdict rack) at i
+Inv-loop rack n at₀ i₀ at i = Judging rack (bodyVerdict rack) n at i
 
 abbrev μ-loop : tie.MeasureT-loop
 μ-loop rack n at₀ i₀ at i = n - i
-
-abbrev start : tie.In-loop Inv-loop μ-loop → tie.Start Inv-loop μ-loop
-start c = c .before .before .before .before
-
-below : (c : tie.In-loop Inv-loop μ-loop) → c .before .loop .i < countOf (now (start c .args .rack))
-below c = omega (arith, c .before .before .count .ensures)
-
-passed : (c : tie.Else1 Inv-loop μ-loop) → BodyFine (now (start (c .before .before .before) .args .rack)) (c .before .before .before .before .loop .i)
-passed c = body-fine _ _ (ap (λ (v : Verdict). v .number) (sym (c .before .before .judge-body .ensures)) ∙ c .if1 .left)
-
-entry : (c : tie.Else1 Inv-loop μ-loop) → EntryFine (now (start (c .before .before .before) .args .rack)) (c .before .before .before .before .loop .i)
-entry c = start (c .before .before .before) .pre .1 _ (below (c .before .before .before))
-
-count-requires : tie.Need-count-requires Inv-loop μ-loop
-count-requires c κs = c .before .pre .0 .two-bytes
-
-mul-at : tie.Need-mul-at Inv-loop μ-loop
-mul-at c = omega (arith, c .count .ensures, c .before .before .pre .0 .few)
-
-add-at : tie.Need-add-at Inv-loop μ-loop
-add-at c = omega (arith, c .count .ensures, c .before .before .pre .0 .few)
-
-loop-holds : tie.Need-loop-holds Inv-loop μ-loop
-loop-holds c = judging-none _ _ _ (c .before .before .pre .0) (c .count .ensures)
-
-judge-body-requires : tie.Need-judge-body-requires Inv-loop μ-loop
-judge-body-requires c κs = (start c .pre .1 _ (below c), (omega (arith, below c, start c .pre .0 .few), c .before .loop .inv .start))
-
-returns : tie.Need-returns Inv-loop μ-loop
-returns c = judging-bad _ _ _ _ _ (c .before .before .before .before .loop .inv) (below (c .before .before .before)) (c .before .before .judge-body .ensures) (c .if1 .taken)
-
-length-of-requires : tie.Need-length-of-requires Inv-loop μ-loop
-length-of-requires c κs = (omega (arith, below (c .before .before .before), start (c .before .before .before) .pre .0 .few), entry c .inFile)
-
-add-at-2 : tie.Need-add-at-2 Inv-loop μ-loop
-add-at-2 c = omega (arith, c .length-of .ensures .1, c .before .before .before .before .before .loop .inv .small)
-
-add-i : tie.Need-add-i Inv-loop μ-loop
-add-i c = omega (arith, below (c .before .before .before .before), start (c .before .before .before .before) .pre .0 .few)
-
-loop-less : tie.Need-loop-less Inv-loop μ-loop
-loop-less c = omega (arith, c .before .before .before .before .loop-test .taken)
-
-loop-again : tie.Need-loop-again Inv-loop μ-loop
-loop-again c = judging-more _ _ _ _ _ (c .before .before .before .before .before .loop .inv) (below (c .before .before .before .before)) (entry (c .before)) (c .length-of .ensures .0) (passed (c .before) .isFine)
-
-returns-2 : tie.Need-returns-2 Inv-loop μ-loop
-returns-2 c = c .good2 .ensures ∙ judging-done _ _ _ _ (c .before .before .loop .inv) (omega (arith, c .before .before .before .count .ensures, c .before .loop-test .left))
 
 pub judge-bodies-spec : {M : Type 1} → statement M
 judge-bodies-spec =
@@ -72,16 +21,22 @@ judge-bodies-spec =
     (tie.spec
     Inv-loop
     μ-loop
-    count-requires
-    mul-at
-    add-at
-    loop-holds
-    judge-body-requires
-    returns
-    length-of-requires
-    add-at-2
-    add-i
-    loop-less
-    loop-again
+    (λ c κs. c .before .pre .0 .two-bytes)
+    (λ c κs. omega (arith, c .count .ensures, c .before .before .pre .0 .few))
+    (λ c.
+    let s = c .before .before .before in
+    judging-none (judges-bodies (s .pre .0) (c .before .count .ensures) (s .pre .1)) (c .entry-of .ensures))
+    (λ c κs.
+    let l = c .before .loop .inv in
+    let n = c .before .before .before in
+    (n .before .before .pre .1 _ (omega (arith, n .count .ensures)), (turn-few l (c .loop-test .taken), l .start)))
+    (λ c. let v = c .before .before in turn-bad (v .before .before .loop .inv) (v .before .loop-test .taken) (v .judge-body .ensures) (c .if1 .taken))
+    (λ c κs. let v = c .before .before in turn-room (v .before .before .loop .inv) (v .before .loop-test .taken) (v .judge-body .ensures) (c .if1 .left))
+    (λ c. let v = c .before .before .before in omega (arith, c .length-of .ensures .1, v .before .before .loop .inv .small))
+    (λ c. let v = c .before .before .before in omega (arith, turn-few (v .before .before .loop .inv) (v .before .loop-test .taken)))
+    (λ c. let v = c .before .before .before in omega (arith, v .before .loop-test .taken))
+    (λ c.
+    let v = c .before .before .before in
+    turn-more (v .before .before .loop .inv) (v .before .loop-test .taken) (v .judge-body .ensures) (c .before .if1 .left) (c .length-of .ensures .0))
     (λ c κs. search needs)
-    returns-2)
+    (λ c. c .good2 .ensures ∙ judging-done (c .before .before .loop .inv) (c .before .loop-test .left)))

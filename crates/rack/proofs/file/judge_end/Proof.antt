@@ -1,13 +1,14 @@
 -- The last entry says where the last body ends; without one the file ends behind its two bytes.
 -- Assumes nothing.
 use mathlib.Core.Path.{_≡_, _∙_}
-use Prim.Native.Nat.{_+_, _-_, _<_}
+use Prim.Native.Nat.{ℕ, _+_, _-_, _<_}
 use native.Mathlib.Omega.{arith}
 use denote.Ref.{now}
 use borrow.Author.Needs.{needs}
 use Rattle.rack.specs.File.{startOf, countOf}
 use Rattle.rack.specs.Facts.{EntryFine}
-use Rattle.rack.proofs.Verdicts.{last-end, start-fits, empty-end, end-bad, end-good}
+use Rattle.rack.proofs.Verdicts.{end-good}
+use Rattle.rack.proofs.Judging.{last-end, start-fits, empty-end, end-bad}
 use Rattle.rack.proofs.file.judge_end.Statement.{statement}
 use Rattle.rack.proofs.file.judge_end.Tie as tie
 
@@ -36,11 +37,14 @@ length-of-requires : tie.Need-length-of-requires
 length-of-requires c κs = (omega (arith, c .before .before .count .ensures, start (c .before) .pre .0 .few, some (c .before)), last (c .before) .inFile)
 
 -- where it ends
-ends : (c : tie.After-length-of)
-    → c .before .offset-of .result + c .length-of .result ≡ startOf (now (start (c .before .before) .args .rack)) (countOf (now (start (c .before .before) .args .rack)))
+abbrev end : tie.Else1 → ℕ
+end c = startOf (now (start c .args .rack)) (countOf (now (start c .args .rack)))
+
+ends : (c : tie.After-length-of) → c .before .offset-of .result + c .length-of .result ≡ end (c .before .before)
 ends c =
     let e = c .before .before in
-    omega (arith, last-end (now (start e .args .rack)) _ (start e .pre .1) (e .before .count .ensures) (some e), c .before .offset-of .ensures, c .length-of .ensures .0)
+    let l = last-end (now (start e .args .rack)) _ (start e .pre .1) (e .before .count .ensures) (some e) in
+    omega (arith, l, c .before .offset-of .ensures, c .length-of .ensures .0)
 
 add-end : tie.Need-add-end
 add-end c =

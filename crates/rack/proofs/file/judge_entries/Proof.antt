@@ -1,67 +1,19 @@
--- Nothing below i has offended (`Judging`), and the next entry starts at `at`.
+-- Nothing below i has offended (`Judging`), and the body of entry i must start at `at`.
 -- Assumes nothing.
-use mathlib.Core.Path.{sym, _∙_, ap}
-use Prim.Native.Nat.{_-_, _<_}
+use mathlib.Core.Path.{_∙_}
+use Prim.Native.Nat.{_-_}
 use native.Mathlib.Omega.{arith}
-use denote.Ref.{now}
 use borrow.Author.Needs.{needs}
-use Rattle.frame.specs.declared.verdict.Verdict.{Verdict}
-use Rattle.rack.specs.File.{countOf, entryVerdict}
-use Rattle.rack.specs.Facts.{EntryFine}
-use Rattle.rack.proofs.Verdicts.{entry-fine, Judging, judging-none, judging-more, judging-done, judging-bad}
+use Rattle.rack.specs.File.{entryVerdict}
+use Rattle.rack.proofs.Judging.{judges-entries, Judging, judging-none, judging-done, turn-few, turn-bad, turn-room, turn-more}
 use Rattle.rack.proofs.file.judge_entries.Statement.{statement}
 use Rattle.rack.proofs.file.judge_entries.Tie as tie
 
 abbrev Inv-loop : tie.InvT-loop
-Inv-loop rack n at₀ i₀ at i = Judging rack (entryVerdict rack) at i
+Inv-loop rack n at₀ i₀ at i = Judging rack (entryVerdict rack) n at i
 
 abbrev μ-loop : tie.MeasureT-loop
 μ-loop rack n at₀ i₀ at i = n - i
-
-abbrev start : tie.In-loop Inv-loop μ-loop → tie.Start Inv-loop μ-loop
-start c = c .before .before .before .before
-
-below : (c : tie.In-loop Inv-loop μ-loop) → c .before .loop .i < countOf (now (start c .args .rack))
-below c = omega (arith, c .before .before .count .ensures)
-
-passed : (c : tie.Else1 Inv-loop μ-loop) → EntryFine (now (start (c .before .before .before) .args .rack)) (c .before .before .before .before .loop .i)
-passed c = entry-fine _ _ (ap (λ (v : Verdict). v .number) (sym (c .before .before .judge-entry .ensures)) ∙ c .if1 .left)
-
-count-requires : tie.Need-count-requires Inv-loop μ-loop
-count-requires c κs = c .before .pre .two-bytes
-
-mul-at : tie.Need-mul-at Inv-loop μ-loop
-mul-at c = omega (arith, c .count .ensures, c .before .before .pre .few)
-
-add-at : tie.Need-add-at Inv-loop μ-loop
-add-at c = omega (arith, c .count .ensures, c .before .before .pre .few)
-
-loop-holds : tie.Need-loop-holds Inv-loop μ-loop
-loop-holds c = judging-none _ _ _ (c .before .before .pre) (c .count .ensures)
-
-judge-entry-requires : tie.Need-judge-entry-requires Inv-loop μ-loop
-judge-entry-requires c κs = (omega (arith, below c, start c .pre .few, c .before .loop .inv .small), c .before .loop .inv .start)
-
-returns : tie.Need-returns Inv-loop μ-loop
-returns c = judging-bad _ _ _ _ _ (c .before .before .before .before .loop .inv) (below (c .before .before .before)) (c .before .before .judge-entry .ensures) (c .if1 .taken)
-
-length-of-requires : tie.Need-length-of-requires Inv-loop μ-loop
-length-of-requires c κs = (omega (arith, below (c .before .before .before), start (c .before .before .before) .pre .few), passed c .inFile)
-
-add-at-2 : tie.Need-add-at-2 Inv-loop μ-loop
-add-at-2 c = omega (arith, c .length-of .ensures .1, c .before .before .before .before .before .loop .inv .small)
-
-add-i : tie.Need-add-i Inv-loop μ-loop
-add-i c = omega (arith, below (c .before .before .before .before), start (c .before .before .before .before) .pre .few)
-
-loop-less : tie.Need-loop-less Inv-loop μ-loop
-loop-less c = omega (arith, c .before .before .before .before .loop-test .taken)
-
-loop-again : tie.Need-loop-again Inv-loop μ-loop
-loop-again c = judging-more _ _ _ _ _ (c .before .before .before .before .before .loop .inv) (below (c .before .before .before .before)) (passed (c .before)) (c .length-of .ensures .0) (passed (c .before) .isFine)
-
-returns-2 : tie.Need-returns-2 Inv-loop μ-loop
-returns-2 c = c .good2 .ensures ∙ judging-done _ _ _ _ (c .before .before .loop .inv) (omega (arith, c .before .before .before .count .ensures, c .before .loop-test .left))
 
 pub judge-entries-spec : {M : Type 1} → statement M
 judge-entries-spec =
@@ -69,16 +21,17 @@ judge-entries-spec =
     (tie.spec
     Inv-loop
     μ-loop
-    count-requires
-    mul-at
-    add-at
-    loop-holds
-    judge-entry-requires
-    returns
-    length-of-requires
-    add-at-2
-    add-i
-    loop-less
-    loop-again
+    (λ c κs. c .before .pre .two-bytes)
+    (λ c κs. omega (arith, c .count .ensures, c .before .before .pre .few))
+    (λ c. judging-none (judges-entries (c .before .before .before .pre) (c .before .count .ensures)) (c .entry-of .ensures))
+    (λ c κs. ((turn-few (c .before .loop .inv) (c .loop-test .taken), c .before .loop .inv .small), c .before .loop .inv .start))
+    (λ c. let v = c .before .before in turn-bad (v .before .before .loop .inv) (v .before .loop-test .taken) (v .judge-entry .ensures) (c .if1 .taken))
+    (λ c κs. let v = c .before .before in turn-room (v .before .before .loop .inv) (v .before .loop-test .taken) (v .judge-entry .ensures) (c .if1 .left))
+    (λ c. let v = c .before .before .before in omega (arith, c .length-of .ensures .1, v .before .before .loop .inv .small))
+    (λ c. let v = c .before .before .before in omega (arith, turn-few (v .before .before .loop .inv) (v .before .loop-test .taken)))
+    (λ c. let v = c .before .before .before in omega (arith, v .before .loop-test .taken))
+    (λ c.
+    let v = c .before .before .before in
+    turn-more (v .before .before .loop .inv) (v .before .loop-test .taken) (v .judge-entry .ensures) (c .before .if1 .left) (c .length-of .ensures .0))
     (λ c κs. search needs)
-    returns-2)
+    (λ c. c .good2 .ensures ∙ judging-done (c .before .before .loop .inv) (c .before .loop-test .left)))

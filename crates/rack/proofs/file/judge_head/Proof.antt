@@ -18,12 +18,14 @@ returns-2 c = c .offence2 .ensures ∙ simp (le-ltb _ _ (c .before .before .befo
 returns-3 : tie.Need-returns-3
 unfolding headVerdict
 returns-3 c =
-    c .offence3 .ensures ∙ simp (le-ltb _ _ (c .before .before .before .before .before .if1 .left), c .before .before .before .if2 .left, lt-ltb _ _ (c .before .if3 .taken))
+    let e = c .before .before .before in
+    c .offence3 .ensures ∙ simp (le-ltb _ _ (e .before .before .if1 .left), e .if2 .left, lt-ltb _ _ (c .before .if3 .taken))
 
 returns-4 : tie.Need-returns-4
 unfolding headVerdict
 returns-4 c =
-    c .good2 .ensures ∙ simp (le-ltb _ _ (c .before .before .before .before .before .if1 .left), c .before .before .before .if2 .left, le-ltb _ _ (c .before .if3 .left))
+    let e = c .before .before .before in
+    c .good2 .ensures ∙ simp (le-ltb _ _ (e .before .before .if1 .left), e .if2 .left, le-ltb _ _ (c .before .if3 .left))
 
 pub judge-head-spec : {M : Type 1} → statement M
 judge-head-spec =
