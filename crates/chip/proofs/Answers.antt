@@ -10,7 +10,7 @@ use lib.ListN.{length, drop, length-take}
 use lib.Seq.{sets}
 use Rattle.frame.specs.Number.{num, part}
 use Rattle.frame.specs.CheckSum.{framed}
-use Rattle.frame.proofs.Frames.{length-framed}
+use Rattle.frame.proofs.CheckSumFrames.{length-framed}
 use Rattle.frame.proofs.Stores.{length-part}
 use Rattle.request.specs.declared.chip.Order.{Order}
 use Rattle.chip.specs.declared.step.Chip.{Chip}

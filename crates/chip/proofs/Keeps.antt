@@ -16,7 +16,7 @@ use Rattle.frame.specs.Judge.{fine}
 use Rattle.frame.specs.declared.verdict.Verdict.{Verdict}
 use Rattle.frame.proofs.Lists.{part-values, valuesFrom}
 use Rattle.frame.proofs.Numbers.{length-bytes, bytes-small}
-use Rattle.frame.proofs.Verdicts.{if-fine, not-none}
+use Rattle.frame.proofs.Judge.{if-fine, not-none}
 use Rattle.frame.proofs.Bools.{and-both, and-off, off-and, or-off, off-or, if-either, below-or-not, not-other}
 use Rattle.frame.proofs.Stores.{sets-off, sets-on, bytes-three, bytes-sets}
 use Rattle.request.specs.declared.chip.Order.{Order}

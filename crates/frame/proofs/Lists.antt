@@ -8,8 +8,12 @@ use native.Mathlib.Nat.{add-zero, zero-add, add-suc, suc-add, le-of-suc-le-suc, 
 use native.Mathlib.Numerals.{add-one, towards-suc}
 use native.Mathlib.Omega.{arith}
 use lib.ListN.{length, getD, take, drop}
-use lib.Seq.{drop-cons}
+use lib.Seq.{drop-cons, getD-drop}
 use Rattle.frame.specs.Choose.{gather}
+
+-- the first of what is left
+pub drop-head : (i : ℕ) (s : List ℕ) → getD (drop i s) 0 0 ≡ getD s i 0
+drop-head i s = getD-drop i s 0 0 ∙ ap (λ (j : ℕ). getD s j 0) (add-zero i)
 
 -- ---- what a loop gathers
 
@@ -44,14 +48,6 @@ pub shift : (f : ℕ → ℕ) (i n : ℕ) → valuesFrom f (suc i) n ≡ valuesF
 shift f i zero = refl
 shift f i (suc n) = ap (λ (l : List ℕ). f (suc i) ∷ l) (shift f (suc i) n)
 
--- a list of n elements, one by one
-pub elements : (n : ℕ) (u : List ℕ) → length u ≡ n → u ≡ valuesFrom (λ k. getD u k 0) 0 n
-elements zero [] e = refl
-elements zero (x ∷ u) e = absurd (omega arith)
-elements (suc n) [] e = absurd (omega arith)
-elements (suc n) (x ∷ u) e =
-    ap (λ (l : List ℕ). x ∷ l) (elements n u (omega arith) ∙ sym (shift (λ k. getD (x ∷ u) k 0) 0 n))
-
 -- a part of n elements from place i, one by one
 pub part-values : (n i : ℕ) (d : List ℕ) → i + n ≤ length d → take n (drop i d) ≡ valuesFrom (λ k. getD d k 0) i n
 part-values zero i d h = refl
@@ -80,5 +76,9 @@ window n k u = valuesFrom (λ i. getD u i 0) k n
 pub window-take : (n k : ℕ) (u : List ℕ) → k + n ≤ length u → window n k u ≡ take n (drop k u)
 window-take n k u h = sym (part-values n k u h)
 
+-- a list of n elements, one by one
 pub window-all : (n : ℕ) (u : List ℕ) → length u ≡ n → window n 0 u ≡ u
-window-all n u h = sym (elements n u h)
+window-all zero [] e = refl
+window-all zero (x ∷ u) e = absurd (omega arith)
+window-all (suc n) [] e = absurd (omega arith)
+window-all (suc n) (x ∷ u) e = ap (λ (l : List ℕ). x ∷ l) (shift (λ k. getD (x ∷ u) k 0) 0 n ∙ window-all n u (omega arith))

@@ -3,13 +3,12 @@
 use mathlib.Core.Path.{_≡_, refl, sym, ap, ap₂, _∙_, subst}
 use mathlib.Core.List.{List, [], _∷_, _++_}
 use Prim.Native.Nat.{ℕ, zero, suc, _+_, _-_, _*_, _/_, _%_, _^_, _≤_, _<_}
-use native.Mathlib.Nat.{zero-div, zero-lt-suc, pow-suc, mod-one, mod-lt, mod-eq-of-lt, add-comm}
+use native.Mathlib.Nat.{zero-lt-suc, pow-suc, mod-one, mod-lt, mod-eq-of-lt, add-comm}
 use native.Mathlib.Omega.{arith}
 use lib.Arith.{mod-mul}
 use lib.Dec.{lit<}
 use lib.ListN.{length, getD, take, drop, length-drop, length-take}
 use lib.Seq.{getD-drop, drop-cons}
-use lib.Pow.{shr-shr}
 use Rattle.frame.specs.Number.{num, bytesOf, part, Bytes}
 
 -- ---- lists of bytes
@@ -66,18 +65,6 @@ num-inj (x ∷ u) (y ∷ v) hu hv l e =
     let p : x ≡ y = omega arith in
     let q : num u ≡ num v = omega arith in
     ap₂ _∷_ p (num-inj u v (λ i. hu (suc i)) (λ i. hv (suc i)) (omega arith) q)
-
--- byte k of a number is element k of its bytes
-pub byte-at : (u : List ℕ) (k : ℕ) → Bytes u → num u / 2 ^ (8 * k) % 2 ^ 8 ≡ getD u k 0
-byte-at [] k h = ap (λ (x : ℕ). x % 256) (zero-div (2 ^ (8 * k)))
-byte-at (b ∷ u) zero h = let l : b < 256 = h 0 in omega arith
-byte-at (b ∷ u) (suc k) h =
-    let l : b < 256 = h 0 in
-    let q : (b + num u * 256) / 2 ^ 8 ≡ num u = omega arith in
-    let e : 8 * suc k ≡ 8 + 8 * k = omega arith in
-    ap (λ (x : ℕ). (b + num u * 256) / 2 ^ x % 256) e
-    ∙ ap (λ (x : ℕ). x % 256) (sym (shr-shr (b + num u * 256) 8 (8 * k)) ∙ ap (λ (x : ℕ). x / 2 ^ (8 * k)) q)
-    ∙ byte-at u k (λ i. h (suc i))
 
 -- ---- there and back
 

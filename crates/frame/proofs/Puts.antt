@@ -14,7 +14,7 @@ use lib.Seq.{sets, sets-eq, drop-cons, getD-take, take-at, length-take-le}
 use Rattle.frame.specs.Number.{bytesOf, part}
 use Rattle.frame.specs.CheckSum.{crcWith, crcOf, framedWith, framed}
 use Rattle.frame.proofs.Numbers.{length-bytes}
-use Rattle.frame.proofs.Frames.{length-framed}
+use Rattle.frame.proofs.CheckSumFrames.{length-framed}
 use Rattle.frame.proofs.Stores.{length-part, part-whole, sets-own, sets-over}
 
 -- ---- a loop that writes what is left, rest, from place p on
@@ -100,15 +100,15 @@ laid-own : (n : ℕ) (old : List ℕ) → n ≤ length old → Laid (take n old)
 laid-own n old h = record { long = sym (length-take-le n old h); is = sym (sets-own old 0 n (omega arith)) }
 
 -- what `seal_part` does, from its two calls
-pub sealed-part : (n at k : ℕ) (b old : List ℕ) {mid fin : List ℕ} {m r : ℕ} → at + k ≤ length b → n + k + 2 ≤ length old
+pub sealed-part : (n at k : ℕ) (b old : List ℕ) {mid fin : List ℕ} {m r : ℕ} → (at + k ≤ length b) × (n + k + 2 ≤ length old)
     → (m ≡ n + k) × (mid ≡ sets old n (take k (part at (at + k - at) b)))
     → (r ≡ m + 2) × (fin ≡ sets mid m (bytesOf 2 (crcOf (take m mid))))
     → (r ≡ n + k + 2) × (fin ≡ sets old 0 (framed (take n old ++ part at k b)))
-sealed-part n at k b old h g e f =
+sealed-part n at k b old h e f =
     let src = part at (at + k - at) b in
     let w : take k src ≡ part at k b = part-whole b at (at + k) k refl in
     let d : at + k - at ≡ k = omega arith in
-    let q : k ≤ length src = rw (d, length-part at k b h) (omega arith) in
+    let q : k ≤ length src = rw (d, length-part at k b (h .0)) (omega arith) in
     let o : n ≤ length old = omega arith in
     let l = laid-bytes k src q (laid-own n old o) e in
     let t : length (take n old ++ take k src) ≤ length old = rw (length-append, length-take-le n old o, length-take-le k src q) (omega arith) in

@@ -9,7 +9,8 @@ use native.Mathlib.Nat.{add-zero, add-suc, suc-add}
 use native.Mathlib.Omega.{arith}
 use lib.Dec.{lit<}
 use lib.ListN.{length, getD, take, drop, set, length-set, length-take, length-drop, take-append-drop}
-use lib.Seq.{sets, sets-eq, length-sets, getD-set-same, getD-set-other, set-set, set-comm, getD-take, getD-drop, take-at, take-take, drop-at, drop-drop, length-take-le, ext-getD}
+use lib.Seq.{sets, sets-eq, length-sets, getD-set-same, getD-set-other, set-set, set-comm, getD-take, getD-drop, take-at, take-take, drop-at}
+use lib.Seq.{drop-drop, length-take-le, ext-getD}
 use Rattle.frame.specs.Number.{part, Bytes}
 
 -- ---- one element

@@ -2,7 +2,7 @@
 -- Assumes nothing.
 use mathlib.Core.Bool.{Bool, true, false, _&&_}
 use mathlib.Core.List.{List, [], _∷_, _++_}
-use Prim.Native.Nat.{ℕ, zero, suc, _+_, _-_, _*_, _/_, _%_}
+use Prim.Native.Nat.{ℕ, zero, suc, _-_, _*_, _/_, _%_}
 use lib.Bits.{bitXor}
 use lib.Dec.{leb, eqb}
 use lib.ListN.{length, take}
@@ -50,11 +50,6 @@ content f = take (length f - 2) f
 -- the last two bytes are the check sum of the bytes before them
 unfoldable pub rightWith : ℕ → Bool → List ℕ → Bool
 rightWith start inverted f = leb 2 (length f) && eqb (num (part (length f - 2) 2 f)) (crcWith start inverted (content f))
-
--- what a frame with its check sum run through leaves in the register
-abbrev pub residue : Bool → ℕ
-residue true = 0xF0B8
-residue false = 0
 
 -- ISO/IEC 13239, for labels and chips: start FFFF, inverted
 abbrev pub crcOf : List ℕ → ℕ

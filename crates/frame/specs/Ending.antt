@@ -5,22 +5,22 @@ use Prim.Native.Nat.{ℕ, _+_, _*_, _/_, _%_, _^_}
 use lib.Dec.{eqb}
 use Rattle.frame.specs.Number.{num, part}
 
--- a UID ends in a mask of m bits; the mask is a number below 2 ^ m
+-- a UID ends in a mask of so many bits; the mask is a number below 2 ^ bits
 unfoldable pub endsIn : List ℕ → ℕ → ℕ → Bool
-endsIn uid mask m = eqb (num uid % 2 ^ m) mask
+endsIn uid mask bits = eqb (num uid % 2 ^ bits) mask
 
 -- and the four bits above the mask are the slot
 unfoldable pub endsInSlot : List ℕ → ℕ → ℕ → ℕ → Bool
-endsInSlot uid mask m slot = endsIn uid mask m && eqb (num uid / 2 ^ m % 16) slot
+endsInSlot uid mask bits slot = endsIn uid mask bits && eqb (num uid / 2 ^ bits % 16) slot
 
 -- the mask with the slot above it: four bits longer
 abbrev pub longer : ℕ → ℕ → ℕ → ℕ
-longer mask m slot = slot * 2 ^ m + mask
+longer mask bits slot = slot * 2 ^ bits + mask
 
--- as few bytes as hold m bits
+-- as few bytes as hold so many bits
 unfoldable pub bytesFor : ℕ → ℕ
-bytesFor m = (m + 7) / 8
+bytesFor bits = (bits + 7) / 8
 
--- the mask of m bits at a place of a frame; bits above it are ignored
+-- the mask of so many bits at a place of a frame; what is above it is ignored
 unfoldable pub maskAt : List ℕ → ℕ → ℕ → ℕ
-maskAt s at m = num (part at (bytesFor m) s) % 2 ^ m
+maskAt s at bits = num (part at (bytesFor bits) s) % 2 ^ bits

@@ -11,7 +11,7 @@ abbrev pub fine : Verdict
 fine = record { number = 0; place = 0 }
 
 abbrev pub bad : ℕ → ℕ → Verdict
-bad n p = record { number = n; place = p }
+bad number place = record { number = number; place = place }
 
 -- the first verdict, unless it is fine: then the second
 abbrev pub orElse : Verdict → Verdict → Verdict

@@ -40,55 +40,55 @@ pub fn same_uid(u: [u8; 8], v: [u8; 8]) -> bool
     uid_number(u) == uid_number(v)
 }
 
-// Two to the m.
-pub fn pow2(m: u32) -> u64
-    requires { ⌜ m < 64 ⌝ }
-    ensures { λ r. ⌜ r ≡ 2 ^ m ⌝ }
+// Two to the power of bits.
+pub fn pow2(bits: u32) -> u64
+    requires { ⌜ bits < 64 ⌝ }
+    ensures { λ r. ⌜ r ≡ 2 ^ bits ⌝ }
 {
-    1u64 << m
+    1u64 << bits
 }
 
-// The m low bits of a number, and what is above them.
-pub fn low_bits(n: u64, m: u32) -> u64
-    ensures { λ r. ⌜ r ≡ n % 2 ^ m ⌝ }
+// The low bits of a number, so many of them, and what is above them.
+pub fn low_bits(n: u64, bits: u32) -> u64
+    ensures { λ r. ⌜ r ≡ n % 2 ^ bits ⌝ }
 {
-    if m < 64 {
-        return n % pow2(m);
+    if bits < 64 {
+        return n % pow2(bits);
     }
     n
 }
 
-pub fn high_bits(n: u64, m: u32) -> u64
-    ensures { λ r. ⌜ r ≡ n / 2 ^ m ⌝ }
+pub fn high_bits(n: u64, bits: u32) -> u64
+    ensures { λ r. ⌜ r ≡ n / 2 ^ bits ⌝ }
 {
-    if m < 64 {
-        return n / pow2(m);
+    if bits < 64 {
+        return n / pow2(bits);
     }
     0
 }
 
-// Whether a UID ends in a mask of m bits.
-pub fn ends_in(u: [u8; 8], mask: u64, m: u32) -> bool
-    ensures { λ r. ⌜ r ≡ endsIn u mask m ⌝ }
+// Whether a UID ends in a mask of so many bits.
+pub fn ends_in(u: [u8; 8], mask: u64, bits: u32) -> bool
+    ensures { λ r. ⌜ r ≡ endsIn u mask bits ⌝ }
 {
-    low_bits(uid_number(u), m) == mask
+    low_bits(uid_number(u), bits) == mask
 }
 
-// Whether a UID ends in a mask of m bits with the slot above it.
-pub fn ends_in_slot(u: [u8; 8], mask: u64, m: u32, slot: u8) -> bool
-    ensures { λ r. ⌜ r ≡ endsInSlot u mask m slot ⌝ }
+// Whether a UID ends in a mask of so many bits with the slot above it.
+pub fn ends_in_slot(u: [u8; 8], mask: u64, bits: u32, slot: u8) -> bool
+    ensures { λ r. ⌜ r ≡ endsInSlot u mask bits slot ⌝ }
 {
-    if ends_in(u, mask, m) {
-        return high_bits(uid_number(u), m) % 16 == wide(slot);
+    if ends_in(u, mask, bits) {
+        return high_bits(uid_number(u), bits) % 16 == wide(slot);
     }
     false
 }
 
-// The m bits of a mask at a place of a frame, what is above them ignored.
-pub fn mask_at(s: &[u8], at: usize, m: u32) -> u64
-    requires { ⌜ (m ≤ 64) × (at + bytesFor m ≤ length (now s)) ⌝ }
-    ensures { λ r. ⌜ (r ≡ maskAt (now (s .entry)) at m) × (r < 2 ^ m) ⌝ }
+// The mask of so many bits at a place of a frame, what is above it ignored.
+pub fn mask_at(s: &[u8], at: usize, bits: u32) -> u64
+    requires { ⌜ (bits ≤ 64) × (at + bytesFor bits ≤ length (now s)) ⌝ }
+    ensures { λ r. ⌜ (r ≡ maskAt (now (s .entry)) at bits) × (r < 2 ^ bits) ⌝ }
 {
-    let k = ((m + 7) / 8) as usize;
-    low_bits(number_at(s, at, k), m)
+    let k = ((bits + 7) / 8) as usize;
+    low_bits(number_at(s, at, k), bits)
 }

@@ -15,8 +15,8 @@ use Rattle.frame.specs.CheckSum.{framedWith, crcOf}
 use Rattle.frame.specs.Ending.{endsIn, endsInSlot}
 use Rattle.frame.proofs.Bools.{if-both}
 use Rattle.frame.proofs.Numbers.{bytes-num, bytes-take, num-lt}
-use Rattle.frame.proofs.Endings.{ends-longer′}
-use Rattle.frame.proofs.Frames.{length-framed}
+use Rattle.frame.proofs.Ending.{ends-longer}
+use Rattle.frame.proofs.CheckSumFrames.{length-framed}
 use Rattle.label.specs.Answer.{answerFrame}
 use Rattle.label.specs.Step.{passes}
 use Rattle.label.specs.Slots.{uidOf, takesPart}
@@ -143,7 +143,7 @@ some-distinct family r d v =
 module _ (family : Family) (m e s : ℕ) (b x : List ℕ) (low : e < 2 ^ m) (long : 8 ≤ length x) (same : part 0 8 x ≡ part 0 8 b) where
   slot-ends : endsInSlot (part 0 8 b) e m s ≡ eqb (ending (4 + m) (uidOf b)) (mask m e s)
   unfolding endsIn
-  slot-ends = sym (ends-longer′ (part 0 8 b) e m s low)
+  slot-ends = sym (ends-longer (part 0 8 b) e m s low)
 
   label-heard : (q t : Bool) → eqb (ending (4 + m) (uidOf b)) (mask m e s) ≡ t
       → map uidIn (spoken (q && t) x) ≡ members (4 + m) (mask m e s) (if q then uidOf b ∷ [] else [])

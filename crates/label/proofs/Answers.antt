@@ -11,7 +11,7 @@ use Rattle.frame.specs.Choose.{if_then_else_}
 use Rattle.frame.specs.Number.{part}
 use Rattle.frame.specs.CheckSum.{framed}
 use Rattle.frame.proofs.Lists.{part-values}
-use Rattle.frame.proofs.Frames.{length-framed}
+use Rattle.frame.proofs.CheckSumFrames.{length-framed}
 use Rattle.frame.proofs.Stores.{length-part}
 use Rattle.request.specs.declared.label.Call.{Call}
 use Rattle.request.specs.declared.label.Request.{Request}

@@ -19,7 +19,7 @@ use Rattle.frame.specs.Number.{num, part, Bytes}
 use Rattle.frame.specs.Judge.{fine, bad, firstOf, byteVerdict}
 use Rattle.frame.proofs.Bools.{below-or-not, if-either, if-both}
 use Rattle.frame.proofs.Numbers.{bytes-part}
-use Rattle.frame.proofs.Verdicts.{if-fine, else-fine, not-none, first-each, first-all, bytes-fine, bytes-good}
+use Rattle.frame.proofs.Judge.{if-fine, else-fine, not-none, first-each, first-all, bytes-fine, bytes-good}
 use Rattle.label.specs.Locks.{lockRoom, locksVerdict}
 use Rattle.label.specs.Body.{wantedOf, Sized, headRules, bitsRules, slotRules, over, maskVerdict, labelRules}
 use Rattle.label.specs.Facts.{LabelFine}

@@ -13,7 +13,7 @@ use lib.ListN.{length, getD}
 use borrow.Author.Tests.{lt-ltb, le-ltb, le-leb, lt-leb, eq-eqb, ne-eqb, eqb-true, not-false}
 use Rattle.frame.specs.declared.verdict.Verdict.{Verdict}
 use Rattle.frame.specs.Judge.{fine, bad, firstOf, byteVerdict}
-use Rattle.frame.proofs.Verdicts.{first-more, first-bad, not-none, if-fine}
+use Rattle.frame.proofs.Judge.{first-more, first-bad, not-none, if-fine}
 use Rattle.label.specs.Locks.{lockRoom, locksVerdict}
 use Rattle.label.specs.Body.{wantedOf, Sized, headRules, slotRules, over, maskVerdict, labelRules}
 

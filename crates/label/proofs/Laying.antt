@@ -9,7 +9,7 @@ use lib.ListN.{length, getD, length-append}
 use lib.Seq.{length-take-le}
 use Rattle.frame.specs.Number.{part}
 use Rattle.frame.specs.CheckSum.{framed}
-use Rattle.frame.proofs.Frames.{length-framed}
+use Rattle.frame.proofs.CheckSumFrames.{length-framed}
 use Rattle.frame.proofs.Stores.{length-part}
 use Rattle.label.specs.declared.step.Answer.{Answer}
 use Rattle.label.specs.declared.step.Answer.the-variants as a

@@ -13,7 +13,7 @@ use Rattle.frame.specs.Number.{Bytes}
 use Rattle.frame.specs.Judge.{fine, firstOf, byteVerdict}
 use Rattle.frame.proofs.Bools.{if-both, same-or-not}
 use Rattle.frame.proofs.Stores.{bytes-set}
-use Rattle.frame.proofs.Verdicts.{first-none, first-suc, bytes-fine, bytes-good}
+use Rattle.frame.proofs.Judge.{first-none, first-suc, bytes-fine, bytes-good}
 use Rattle.label.specs.Locks.{lockRoom, lockOn, withLock, locksVerdict, LocksFine}
 
 -- ---- how many bytes

@@ -1,22 +1,22 @@
 // play RACK [NEXT]: plays the rack file named first over the events on standard input, and writes the rack left to NEXT where one is named.
 use libc::STDERR_FILENO;
 use libc::STDIN_FILENO;
-use script::lines::Step;
+use script::lines::Action;
 use script::lines::Trouble;
-use script::lines::step_of;
+use script::lines::action_of;
 use script::replies::play_event;
-use script::replies::print_kind;
+use script::replies::print_event;
 use script::replies::print_trouble;
 use text::file::load;
-use text::lines::Kind;
+use text::lines::Reached;
 use text::lines::is_end;
 use text::lines::next;
 use text::lines::source_of;
-use text::print::number;
+use text::print::print_number;
 use text::print::say;
 use text::print::say_number;
 ghost use mathlib.Core.Path.{_≡_};
-ghost use Rattle.script.specs.Lines.{stepOf, played, lineRack, eventsBy};
+ghost use Rattle.script.specs.Lines.{effectOf, eventRack, lineRack, eventsBy};
 
 // How many lines and events there were.
 struct Tally {
@@ -41,13 +41,13 @@ fn too_long(n: u64) {
     say(b"too long\n");
 }
 
-// Plays event n, of a kind.
-fn play(n: u64, kind: u8, frame: &[u8], tags: &mut [u8], draws: &[u8])
-    ensures { λ r. ⌜ now (tags .exit) ≡ played (now (tags .entry)) kind (now (frame .entry)) (now (draws .entry)) ⌝ }
+// Plays the event of a number, the n-th that came.
+fn play(n: u64, number: u8, frame: &[u8], tags: &mut [u8], draws: &[u8])
+    ensures { λ r. ⌜ now (tags .exit) ≡ eventRack (now (tags .entry)) number (now (frame .entry)) (now (draws .entry)) ⌝ }
 {
-    number(n);
-    print_kind(kind);
-    play_event(tags, kind, frame, draws);
+    print_number(n);
+    print_event(number);
+    play_event(tags, number, frame, draws);
     say(b"\n");
 }
 
@@ -60,20 +60,20 @@ fn play_line(
     draws: &mut [u8],
     bytes: &mut [u8],
 ) -> u64
-    ensures { λ r. ⌜ r ≡ eventsBy (stepOf (now (line .entry)) (now (draws .entry)) (now (bytes .entry)) .step) events ⌝ }
+    ensures { λ r. ⌜ r ≡ eventsBy (effectOf (now (line .entry)) (now (draws .entry)) (now (bytes .entry)) .action) events ⌝ }
     ensures { λ r. ⌜ now (tags .exit) ≡ lineRack (now (line .entry)) (now (draws .entry)) (now (bytes .entry)) (now (tags .entry)) ⌝ }
-    ensures { λ r. ⌜ now (draws .exit) ≡ stepOf (now (line .entry)) (now (draws .entry)) (now (bytes .entry)) .draws ⌝ }
-    ensures { λ r. ⌜ now (bytes .exit) ≡ stepOf (now (line .entry)) (now (draws .entry)) (now (bytes .entry)) .bytes ⌝ }
+    ensures { λ r. ⌜ now (draws .exit) ≡ effectOf (now (line .entry)) (now (draws .entry)) (now (bytes .entry)) .draws ⌝ }
+    ensures { λ r. ⌜ now (bytes .exit) ≡ effectOf (now (line .entry)) (now (draws .entry)) (now (bytes .entry)) .bytes ⌝ }
 {
-    let step = step_of(line, draws, bytes);
-    match step {
-        Step::Nothing => events,
-        Step::Play(kind, len) => {
+    let action = action_of(line, draws, bytes);
+    match action {
+        Action::Nothing => events,
+        Action::Play(number, len) => {
             let played = std::num::wrapping_add_u64(events, 1);
-            play(played, kind, &bytes[0..len], tags, draws);
+            play(played, number, &bytes[0..len], tags, draws);
             played
         }
-        Step::Wrong(trouble) => {
+        Action::Wrong(trouble) => {
             wrong(n, trouble);
             events
         }
@@ -82,7 +82,7 @@ fn play_line(
 
 // One answer of `next`.
 fn turn(
-    kind: Kind,
+    reached: Reached,
     line: &[u8],
     tally: Tally,
     tags: &mut [u8],
@@ -90,22 +90,22 @@ fn turn(
     bytes: &mut [u8],
 ) -> Tally {
     let n = std::num::wrapping_add_u64(tally.lines, 1);
-    match kind {
-        Kind::Line => {
+    match reached {
+        Reached::Line => {
             let events = play_line(line, n, tally.events, tags, draws, bytes);
             Tally {
                 lines: n,
                 events: events,
             }
         }
-        Kind::Long => {
+        Reached::Long => {
             too_long(n);
             Tally {
                 lines: n,
                 events: tally.events,
             }
         }
-        Kind::End => tally,
+        Reached::End => tally,
     }
 }
 
@@ -120,13 +120,13 @@ fn play_lines(tags: &mut [u8], buf: &mut [u8], draws: &mut [u8], bytes: &mut [u8
     while 0 < left {
         left -= 1;
         let got = next(source, buf);
-        let kind = got.kind;
-        if is_end(kind) {
+        let reached = got.reached;
+        if is_end(reached) {
             return;
         }
         let from = got.from;
         let to = got.to;
-        tally = turn(kind, &buf[from..to], tally, tags, draws, bytes);
+        tally = turn(reached, &buf[from..to], tally, tags, draws, bytes);
         let s = got.source;
         source = s;
     }

@@ -15,7 +15,7 @@ use Rattle.frame.specs.Number.{part}
 use Rattle.frame.specs.declared.verdict.Verdict.{Verdict}
 use Rattle.frame.proofs.Bools.{and-both}
 use Rattle.frame.proofs.Puts.{sets-front}
-use Rattle.frame.proofs.Verdicts.{not-none}
+use Rattle.frame.proofs.Judge.{not-none}
 use Rattle.request.specs.Label.{dataOf}
 use Rattle.request.specs.Signal.{signalOf}
 use Rattle.request.specs.declared.signal.Signal.{Signal}

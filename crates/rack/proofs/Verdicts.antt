@@ -11,7 +11,7 @@ use lib.Dec.{eqb, ltb}
 use lib.ListN.{length, getD}
 use Rattle.frame.specs.Judge.{fine, bad, firstOf}
 use Rattle.frame.specs.declared.verdict.Verdict.{Verdict}
-use Rattle.frame.proofs.Verdicts.{if-fine, else-fine, else-bad, else-next, not-none, first-each, first-all}
+use Rattle.frame.proofs.Judge.{if-fine, else-fine, else-bad, else-next, not-none, first-each, first-all}
 use Rattle.rack.specs.File.{countOf, entryAt, kindAt, lengthAt, offsetAt, startOf, bodyAt}
 use Rattle.rack.specs.File.{known, lengthFits, headVerdict, entryVerdict, bodyRules, moved, bodyVerdict, endVerdict, verdictOf}
 use Rattle.rack.specs.Facts.{HeadFine, EntryFine, EntriesFine, BodyFine, RackFine}

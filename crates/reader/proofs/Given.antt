@@ -17,7 +17,7 @@ use Rattle.frame.specs.Number.{num, part, Bytes}
 use Rattle.frame.specs.CheckSum.{right, content, framed}
 use Rattle.frame.specs.Ending.{endsIn, endsInSlot}
 use Rattle.frame.proofs.Bools.{and-both, or-right, eqb-same, if-true, if-false}
-use Rattle.frame.proofs.Frames.{right-framed}
+use Rattle.frame.proofs.CheckSumFrames.{right-framed}
 use Rattle.frame.proofs.Lists.{window, window-take, window-all}
 use Rattle.frame.proofs.Numbers.{bytes-take, bytes-drop, bytes-part}
 use Rattle.request.specs.declared.label.Target.{Target}

@@ -12,7 +12,7 @@ use borrow.Author.Tests.{ne-eqb}
 use Rattle.frame.specs.Choose.{if_then_else_}
 use Rattle.frame.specs.Number.{num, bytesOf}
 use Rattle.frame.specs.CheckSum.{crcOf, framedWith, framed}
-use Rattle.frame.proofs.Frames.{length-framed, right-all}
+use Rattle.frame.proofs.CheckSumFrames.{length-framed, right-all}
 use Rattle.request.specs.Table.{table, lookup}
 use Rattle.request.specs.Label as labels
 use Rattle.request.specs.declared.label.Target.{Target}

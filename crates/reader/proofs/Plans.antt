@@ -15,7 +15,7 @@ use Rattle.frame.specs.Choose.{if_then_else_}
 use Rattle.frame.specs.Number.{bytesOf}
 use Rattle.frame.specs.CheckSum.{framed, crcOf}
 use Rattle.frame.specs.Ending.{bytesFor}
-use Rattle.frame.proofs.Frames.{length-framed}
+use Rattle.frame.proofs.CheckSumFrames.{length-framed}
 use Rattle.frame.proofs.Numbers.{length-bytes}
 use Rattle.frame.proofs.Puts.{laid-none, laid-number, laid-bytes, laid-seal, laid-done}
 use Rattle.request.specs.declared.label.Target.{Target}

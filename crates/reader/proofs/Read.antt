@@ -13,7 +13,7 @@ use borrow.Author.Tests.{le-leb, le-ltb, eq-eqb}
 use Rattle.frame.specs.Number.{num, bytesOf, part}
 use Rattle.frame.specs.CheckSum.{crcOf, framedWith, framed}
 use Rattle.frame.specs.Ending.{endsIn}
-use Rattle.frame.proofs.Frames.{length-framed, content-framed, right-all}
+use Rattle.frame.proofs.CheckSumFrames.{length-framed, content-framed, right-all}
 use Rattle.frame.proofs.Lists.{window, window-take, window-all}
 use Rattle.request.specs.declared.label.Target.{Target}
 use Rattle.request.specs.declared.label.Family.{Family}

@@ -15,7 +15,7 @@ use Rattle.frame.specs.Choose.{if_then_else_, bit, set?}
 use Rattle.frame.specs.Number.{num, bytesOf, part}
 use Rattle.frame.specs.CheckSum.{crcOf, framedWith, framed}
 use Rattle.frame.specs.Ending.{bytesFor, maskAt}
-use Rattle.frame.proofs.Frames.{length-framed, right-all}
+use Rattle.frame.proofs.CheckSumFrames.{length-framed, right-all}
 use Rattle.frame.proofs.Numbers.{length-bytes, num-bytes-lt}
 use Rattle.request.specs.declared.label.Target.the-variants.{Everyone, Selected, One}
 use Rattle.request.specs.declared.label.Family.{Family}

@@ -11,7 +11,7 @@ use Rattle.frame.specs.Choose.{bit, set?}
 use Rattle.frame.specs.Number.{Bytes}
 use Rattle.frame.specs.CheckSum.{right}
 use Rattle.frame.specs.Ending.{bytesFor}
-use Rattle.frame.proofs.Endings.{mask-lt}
+use Rattle.frame.proofs.Ending.{mask-lt}
 use Rattle.frame.proofs.Bools.{if-either, if-both}
 use Rattle.frame.proofs.Numbers.{bytes-part}
 use Rattle.request.specs.declared.table.Found.{Found}

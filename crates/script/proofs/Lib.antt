@@ -1,4 +1,6 @@
 -- The laws of what a line asks.
-pub mod Pads
-pub mod Asks
-pub mod Meant
+pub mod LinesDraws
+pub mod LinesActions
+pub mod LinesInside
+pub mod LinesRack
+pub mod LinesMeant

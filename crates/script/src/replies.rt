@@ -8,10 +8,10 @@ use text::hex::print_uid;
 use text::print::say;
 use text::print::say_number;
 ghost use mathlib.Core.Path.{_≡_};
-ghost use Rattle.script.specs.Lines.{played};
+ghost use Rattle.script.specs.Lines.{eventRack};
 
-// An event's kind, between its number and its reply.
-pub fn print_kind(number: u8) {
+// What an event is, by its number, between how many have come and its reply.
+pub fn print_event(number: u8) {
     match number {
         1 => say(b" off: "),
         2 => say(b" on: "),
@@ -44,7 +44,7 @@ fn print_reply(report: Report, answer: &[u8]) {
 
 // Plays an event on a rack and writes its reply.
 pub fn play_event(tags: &mut [u8], number: u8, frame: &[u8], draws: &[u8])
-    ensures { λ r. ⌜ now (tags .exit) ≡ played (now (tags .entry)) number (now (frame .entry)) (now (draws .entry)) ⌝ }
+    ensures { λ r. ⌜ now (tags .exit) ≡ eventRack (now (tags .entry)) number (now (frame .entry)) (now (draws .entry)) ⌝ }
 {
     let mut answer = [0u8; 64];
     let n = draws_for(tags, draws.len());
@@ -59,7 +59,7 @@ fn in_column(what: &[u8], column: u64) {
 
 pub fn print_trouble(trouble: Trouble) {
     match trouble {
-        Trouble::Word => say(b"no such word"),
+        Trouble::Unknown => say(b"no such word"),
         Trouble::Behind => say(b"nothing may stand behind this word"),
         Trouble::Bad(column) => in_column(b"no hex digit", column),
         Trouble::Odd(column) => in_column(b"a hex digit alone", column),

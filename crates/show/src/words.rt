@@ -6,7 +6,7 @@ use text::hex::say_byte;
 use text::print::say;
 
 pub fn number(x: usize) {
-    text::print::number(x as u64);
+    text::print::print_number(x as u64);
 }
 
 // A count of things, whose name takes an s unless there is one.

@@ -1,18 +1,25 @@
 -- Hex digits and their values. Assumes nothing.
 use mathlib.Core.List.{List, [], _∷_}
 use Prim.Native.Nat.{ℕ, _+_, _-_, _/_, _%_}
-use mathlib.Core.Bool.{cond}
 use lib.Dec.{ltb}
+use Rattle.frame.specs.Choose.{if_then_else_}
 use Rattle.text.specs.declared.hex.Nibble.{Nibble}
 use Rattle.text.specs.declared.hex.Nibble.the-variants.{Digit, Other}
 
 -- the capital digit of a number below 16, or `?`
 unfoldable pub digitOf : ℕ → ℕ
-digitOf n = cond (ltb n 10) (48 + n) (cond (ltb n 16) (55 + n) 63)
+digitOf n = if ltb n 10 then 48 + n else if ltb n 16 then 55 + n else 63
 
 -- the value of a byte of text as a digit: 0 to 9, A to F, a to f
 unfoldable pub valueOf : ℕ → Nibble
-valueOf c = cond (ltb c 48) Other (cond (ltb c 58) (Digit (c - 48)) (cond (ltb c 65) Other (cond (ltb c 71) (Digit (c - 55)) (cond (ltb c 97) Other (cond (ltb c 103) (Digit (c - 87)) Other)))))
+valueOf c =
+    if ltb c 48 then Other
+    else if ltb c 58 then Digit (c - 48)
+    else if ltb c 65 then Other
+    else if ltb c 71 then Digit (c - 55)
+    else if ltb c 97 then Other
+    else if ltb c 103 then Digit (c - 87)
+    else Other
 
 -- bytes in hex: a space before each, two capitals
 abbrev pub hexText : List ℕ → List ℕ

@@ -2,4 +2,5 @@
 pub mod Hex
 pub mod Lines
 pub mod Runs
+pub mod RunsPlaces
 pub mod Words

@@ -6,8 +6,3 @@ use Rattle.text.specs.declared.lines.Got.{Got}
 pub record Inside (g : Got) (m : ℕ) : Type 0 where
   pub order : g .from ≤ g .to
   pub within : g .to ≤ m
-
--- place r is not before `from`, and not past m
-pub record Behind (from r m : ℕ) : Type 0 where
-  pub after : from ≤ r
-  pub within : r ≤ m

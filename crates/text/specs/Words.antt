@@ -5,20 +5,20 @@ use Prim.Native.Nat.{ℕ, suc, _+_}
 use lib.Dec.{eqb}
 use lib.ListN.{length, getD, take, drop}
 use Rattle.frame.specs.Choose.{if_then_else_}
-use Rattle.text.specs.declared.words.Word.{Word}
-use Rattle.text.specs.declared.words.Word.the-variants as w
-use Rattle.text.specs.declared.words.Said.{Said}
+use Rattle.text.specs.declared.words.Keyword.{Keyword}
+use Rattle.text.specs.declared.words.Keyword.the-variants as w
+use Rattle.text.specs.declared.words.FirstWord.{FirstWord}
 
-unfoldable pub blank : ℕ → Bool
-blank c = eqb c 32 || eqb c 9
+unfoldable pub isBlank : ℕ → Bool
+isBlank c = eqb c 32 || eqb c 9
 
 abbrev pub solid : ℕ → Bool
-solid c = not (blank c)
+solid c = not (isBlank c)
 
 -- how many of the first bytes of a text pass a test
-abbrev pub leading : (ℕ → Bool) → List ℕ → ℕ
-leading p [] = 0
-leading p (c ∷ s) = if p c then suc (leading p s) else 0
+abbrev pub lead : (ℕ → Bool) → List ℕ → ℕ
+lead p [] = 0
+lead p (c ∷ s) = if p c then suc (lead p s) else 0
 
 -- the same bytes
 abbrev pub sameText : List ℕ → List ℕ → Bool
@@ -28,7 +28,7 @@ sameText (a ∷ s) [] = false
 sameText (a ∷ s) (b ∷ t) = eqb a b && sameText s t
 
 -- off, on, eof: words that take nothing
-unfoldable pub bareWord : List ℕ → Word
+unfoldable pub bareWord : List ℕ → Keyword
 bareWord s =
     if sameText s (111 ∷ 102 ∷ 102 ∷ []) then w.Off
     else if sameText s (111 ∷ 110 ∷ []) then w.On
@@ -36,7 +36,7 @@ bareWord s =
     else w.Unknown
 
 -- label, label+, chip, chip+, draws: words that take bytes
-unfoldable pub wordOf : List ℕ → Word
+unfoldable pub wordOf : List ℕ → Keyword
 wordOf s =
     if sameText s (108 ∷ 97 ∷ 98 ∷ 101 ∷ 108 ∷ []) then w.Label
     else if sameText s (108 ∷ 97 ∷ 98 ∷ 101 ∷ 108 ∷ 43 ∷ []) then w.LabelSeal
@@ -46,18 +46,18 @@ wordOf s =
     else bareWord s
 
 -- the word at place n of a line, which holds no blank, with what follows
-unfoldable pub wordAt : List ℕ → ℕ → Said
+unfoldable pub wordAt : List ℕ → ℕ → FirstWord
 wordAt s n =
     if eqb n (length s) then record { word = w.Empty; rest = n }
     else if eqb (getD s n 0) 35 then record { word = w.Comment; rest = length s }
-    else record { word = wordOf (take (leading solid (drop n s)) (drop n s)); rest = n + leading solid (drop n s) }
+    else record { word = wordOf (take (lead solid (drop n s)) (drop n s)); rest = n + lead solid (drop n s) }
 
 -- the first word of a line and the place behind it; a `#` opens a comment
-unfoldable pub firstWord : List ℕ → Said
-firstWord s = wordAt s (leading blank s)
+unfoldable pub firstWord : List ℕ → FirstWord
+firstWord s = wordAt s (lead isBlank s)
 
 -- nothing but blanks, or blanks and a comment behind them
 unfoldable pub bareText : List ℕ → Bool
 bareText s =
-    if eqb (leading blank s) (length s) then true
-    else not (eqb (leading blank s) 0) && eqb (getD s (leading blank s) 0) 35
+    if eqb (lead isBlank s) (length s) then true
+    else not (eqb (lead isBlank s) 0) && eqb (getD s (lead isBlank s) 0) 35

@@ -2,10 +2,11 @@
 ghost use mathlib.Core.Path.{_≡_};
 ghost use mathlib.Core.List.{[], _∷_};
 ghost use Prim.Native.Nat.{_+_, _*_, _/_, _%_, _<_, _≤_};
-ghost use lib.ListN.{length, getD, drop};
+ghost use lib.ListN.{length, getD};
 ghost use lib.Seq.{sets};
 ghost use Rattle.text.specs.Hex.{digitOf, valueOf, hexText};
-ghost use Rattle.text.specs.Runs.{unread, pieceOf, gapAt, hexOf};
+ghost use Rattle.text.specs.Runs.{unread, hexOf};
+ghost use Rattle.text.specs.RunsPlaces.{gapAt, pieceAt};
 use crate::print::say;
 use crate::words::is_blank;
 use crate::words::skip_blanks;
@@ -16,10 +17,10 @@ pub enum Nibble {
     Other,
 }
 
-// What a run of hex is: so many bytes; the place of a byte that is no hex digit; the place of a digit that stands alone; more bytes than there is
-// room for.
-pub enum Run {
-    Bytes(usize),
+// How a run of hex ended: so many bytes were read; at the place of a byte that is no hex digit; at the place of a digit that stands alone; with more
+// bytes than there is room for.
+pub enum HexRun {
+    Good(usize),
     Bad(usize),
     Odd(usize),
     Full,
@@ -28,7 +29,7 @@ pub enum Run {
 // What stands at a place of a run: a byte, or the run's end.
 enum Piece {
     Byte(u8),
-    Stop(Run),
+    Stop(HexRun),
 }
 
 // The capital digit of n, or `?` past 15.
@@ -158,7 +159,7 @@ pub fn print_uid(u: [u8; 8]) {
 }
 
 // Reads pairs of hex digits from s to the start of out. Blanks may stand around pairs, and a `#` behind a blank ends the run.
-pub fn read_bytes(s: &[u8], out: &mut [u8]) -> Run
+pub fn read_bytes(s: &[u8], out: &mut [u8]) -> HexRun
     ensures { λ r. ⌜ r ≡ hexOf (length (now (out .entry))) (now (s .entry)) .run ⌝ }
     ensures { λ r. ⌜ now (out .exit) ≡ sets (now (out .entry)) 0 (hexOf (length (now (out .entry))) (now (s .entry)) .bytes) ⌝ }
 {
@@ -175,31 +176,31 @@ pub fn read_bytes(s: &[u8], out: &mut [u8]) -> Run
             }
         }
     }
-    Run::Bytes(n)
+    HexRun::Good(n)
 }
 
 // What stands at s[at], which is no blank, where n bytes were read and there is room for `room`.
 fn piece_at(s: &[u8], at: usize, n: usize, room: usize) -> Piece
     requires { ⌜ at < length (now s) ⌝ }
-    ensures { λ r. ⌜ r ≡ pieceOf room n at (gapAt (now (s .entry)) at) (drop at (now (s .entry))) ⌝ }
+    ensures { λ r. ⌜ r ≡ pieceAt (now (s .entry)) at n room ⌝ }
 {
     let a = value(s[at]);
     let Nibble::Digit(h) = a else {
         return Piece::Stop(no_digit(s, at, n));
     };
     if s.len() - at < 2 {
-        return Piece::Stop(Run::Odd(at));
+        return Piece::Stop(HexRun::Odd(at));
     }
     let c = s[at + 1];
     if is_blank(c) {
-        return Piece::Stop(Run::Odd(at));
+        return Piece::Stop(HexRun::Odd(at));
     }
     let b = value(c);
     let Nibble::Digit(l) = b else {
-        return Piece::Stop(Run::Bad(at + 1));
+        return Piece::Stop(HexRun::Bad(at + 1));
     };
     if room <= n {
-        return Piece::Stop(Run::Full);
+        return Piece::Stop(HexRun::Full);
     }
     Piece::Byte(joined(h, l))
 }
@@ -212,18 +213,18 @@ fn joined(h: u8, l: u8) -> u8
 }
 
 // What a byte that is no digit says: a `#` behind a blank ends the run.
-fn no_digit(s: &[u8], at: usize, n: usize) -> Run
+fn no_digit(s: &[u8], at: usize, n: usize) -> HexRun
     requires { ⌜ at < length (now s) ⌝ }
     ensures { λ r. ⌜ r ≡ unread n at (gapAt (now (s .entry)) at) (getD (now (s .entry)) at 0) ⌝ }
 {
     if s[at] != b'#' {
-        return Run::Bad(at);
+        return HexRun::Bad(at);
     }
     if at == 0 {
-        return Run::Bad(at);
+        return HexRun::Bad(at);
     }
     if is_blank(s[at - 1]) {
-        return Run::Bytes(n);
+        return HexRun::Good(n);
     }
-    Run::Bad(at)
+    HexRun::Bad(at)
 }

@@ -5,7 +5,7 @@
 use crate::file::read_part;
 ghost use Prim.Native.Nat.{_≤_};
 ghost use lib.ListN.{length};
-ghost use Rattle.text.specs.Lines.{Inside, Behind};
+ghost use Rattle.text.specs.Lines.{Inside};
 
 // Where the reading stands: buf[start..end] was read and not handed out; `done`: the input has ended.
 pub struct Source {
@@ -15,8 +15,8 @@ pub struct Source {
     pub done: bool,
 }
 
-// A line; a line that was too long, now passed; the end.
-pub enum Kind {
+// How a read of a line ended: at a line; at a line that was too long, now passed; at the end of the input.
+pub enum Reached {
     Line,
     Long,
     End,
@@ -24,17 +24,17 @@ pub enum Kind {
 
 // What a call found. A line is buf[from..to], till the next call.
 pub struct Got {
-    pub kind: Kind,
+    pub reached: Reached,
     pub from: usize,
     pub to: usize,
     pub source: Source,
 }
 
-pub fn is_end(kind: Kind) -> bool {
-    match kind {
-        Kind::Line => false,
-        Kind::Long => false,
-        Kind::End => true,
+pub fn is_end(reached: Reached) -> bool {
+    match reached {
+        Reached::Line => false,
+        Reached::Long => false,
+        Reached::End => true,
     }
 }
 
@@ -61,11 +61,11 @@ fn ended(fd: i32) -> Source {
 }
 
 // What is no line.
-fn other(kind: Kind, source: Source) -> Got
+fn other(reached: Reached, source: Source) -> Got
     ensures { λ r. ⌜ Inside r 0 ⌝ }
 {
     Got {
-        kind: kind,
+        reached: reached,
         from: 0,
         to: 0,
         source: source,
@@ -80,13 +80,13 @@ pub fn next(s: Source, buf: &mut [u8]) -> Got
     let start = s.start;
     let end = s.end;
     if s.done {
-        return other(Kind::End, s);
+        return other(Reached::End, s);
     }
     if buf.len() < end {
-        return other(Kind::End, ended(s.fd));
+        return other(Reached::End, ended(s.fd));
     }
     if end < start {
-        return other(Kind::End, ended(s.fd));
+        return other(Reached::End, ended(s.fd));
     }
     let at = newline(buf, start, end);
     if at < end {
@@ -104,7 +104,7 @@ fn line(buf: &[u8], from: usize, to: usize, source: Source) -> Got
 {
     if to == from {
         return Got {
-            kind: Kind::Line,
+            reached: Reached::Line,
             from: from,
             to: to,
             source: source,
@@ -112,14 +112,14 @@ fn line(buf: &[u8], from: usize, to: usize, source: Source) -> Got
     }
     if buf[to - 1] == b'\r' {
         return Got {
-            kind: Kind::Line,
+            reached: Reached::Line,
             from: from,
             to: to - 1,
             source: source,
         };
     }
     Got {
-        kind: Kind::Line,
+        reached: Reached::Line,
         from: from,
         to: to,
         source: source,
@@ -131,10 +131,10 @@ fn last(fd: i32, to: usize) -> Got
     ensures { λ r. ⌜ Inside r to ⌝ }
 {
     if to == 0 {
-        return other(Kind::End, ended(fd));
+        return other(Reached::End, ended(fd));
     }
     Got {
-        kind: Kind::Line,
+        reached: Reached::Line,
         from: 0,
         to: to,
         source: ended(fd),
@@ -145,7 +145,8 @@ fn last(fd: i32, to: usize) -> Got
 fn newline(s: &[u8], from: usize, to: usize) -> usize
     requires { ⌜ from ≤ to ⌝ }
     requires { ⌜ to ≤ length (now s) ⌝ }
-    ensures { λ r. ⌜ Behind from r to ⌝ }
+    ensures { λ r. ⌜ from ≤ r ⌝ }
+    ensures { λ r. ⌜ r ≤ to ⌝ }
 {
     let mut i = from;
     while i < to {
@@ -188,7 +189,7 @@ fn stopped(fd: i32, to: usize, fine: bool) -> Got
 {
     tell(fine);
     if !fine {
-        return other(Kind::End, ended(fd));
+        return other(Reached::End, ended(fd));
     }
     last(fd, to)
 }
@@ -225,12 +226,12 @@ fn pass(fd: i32, buf: &mut [u8]) -> Got
         let n = part.len;
         if n == 0 {
             tell(part.fine);
-            return other(Kind::Long, ended(fd));
+            return other(Reached::Long, ended(fd));
         }
         let at = newline(buf, 0, n);
         if at < n {
-            return other(Kind::Long, holding(fd, at + 1, n));
+            return other(Reached::Long, holding(fd, at + 1, n));
         }
     }
-    other(Kind::Long, ended(fd))
+    other(Reached::Long, ended(fd))
 }

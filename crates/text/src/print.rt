@@ -10,12 +10,12 @@ pub fn line_end() {
 }
 
 // n in decimal.
-pub fn number(n: u64) {
+pub fn print_number(n: u64) {
     io::print_decimal(STDOUT_FILENO, n);
 }
 
 // A text and a number behind it.
 pub fn say_number(s: &[u8], n: u64) {
     say(s);
-    number(n);
+    print_number(n);
 }

@@ -2,11 +2,11 @@
 ghost use mathlib.Core.Path.{_≡_};
 ghost use Prim.Native.Nat.{_+_, _≤_};
 ghost use lib.ListN.{length, drop};
-ghost use Rattle.text.specs.Words.{blank, solid, leading, sameText, bareWord, wordOf, firstWord, bareText};
+ghost use Rattle.text.specs.Words.{isBlank, solid, lead, sameText, bareWord, wordOf, firstWord, bareText};
 
-// The first word of a line: Empty where it has only blanks, Comment where its first byte but blanks is `#`. LabelSeal and ChipSeal are the words
-// with a `+`: the check sum is to be added.
-pub enum Word {
+// What the first word of a line is: Empty where it has only blanks, Comment where its first byte but blanks is `#`. LabelSeal and ChipSeal are the
+// words with a `+`: the check sum is to be added.
+pub enum Keyword {
     Empty,
     Comment,
     Off,
@@ -20,14 +20,14 @@ pub enum Word {
     Unknown,
 }
 
-// A word and the place behind it: the end of the line for a comment.
-pub struct Said {
-    pub word: Word,
+// The first word of a line and the place behind it, where the rest starts: the end of the line for a comment.
+pub struct FirstWord {
+    pub word: Keyword,
     pub rest: usize,
 }
 
 pub fn is_blank(c: u8) -> bool
-    ensures { λ r. ⌜ r ≡ blank c ⌝ }
+    ensures { λ r. ⌜ r ≡ isBlank c ⌝ }
 {
     if c == b' ' {
         return true;
@@ -38,7 +38,7 @@ pub fn is_blank(c: u8) -> bool
 // The first place from `from` on that holds no blank, or s's length.
 pub fn skip_blanks(s: &[u8], from: usize) -> usize
     requires { ⌜ from ≤ length (now s) ⌝ }
-    ensures { λ r. ⌜ r ≡ from + leading blank (drop from (now (s .entry))) ⌝ }
+    ensures { λ r. ⌜ r ≡ from + lead isBlank (drop from (now (s .entry))) ⌝ }
 {
     let mut i = from;
     while i < s.len() {
@@ -53,7 +53,7 @@ pub fn skip_blanks(s: &[u8], from: usize) -> usize
 // The first place from `from` on that holds a blank, or s's length.
 fn word_end(s: &[u8], from: usize) -> usize
     requires { ⌜ from ≤ length (now s) ⌝ }
-    ensures { λ r. ⌜ r ≡ from + leading solid (drop from (now (s .entry))) ⌝ }
+    ensures { λ r. ⌜ r ≡ from + lead solid (drop from (now (s .entry))) ⌝ }
 {
     let mut i = from;
     while i < s.len() {
@@ -82,61 +82,61 @@ fn same(a: &[u8], b: &[u8]) -> bool
 }
 
 // A word that takes nothing.
-fn bare_word(s: &[u8]) -> Word
+fn bare_word(s: &[u8]) -> Keyword
     ensures { λ r. ⌜ r ≡ bareWord (now (s .entry)) ⌝ }
 {
     if same(s, b"off") {
-        return Word::Off;
+        return Keyword::Off;
     }
     if same(s, b"on") {
-        return Word::On;
+        return Keyword::On;
     }
     if same(s, b"eof") {
-        return Word::Eof;
+        return Keyword::Eof;
     }
-    Word::Unknown
+    Keyword::Unknown
 }
 
-fn named(s: &[u8]) -> Word
+fn named(s: &[u8]) -> Keyword
     ensures { λ r. ⌜ r ≡ wordOf (now (s .entry)) ⌝ }
 {
     if same(s, b"label") {
-        return Word::Label;
+        return Keyword::Label;
     }
     if same(s, b"label+") {
-        return Word::LabelSeal;
+        return Keyword::LabelSeal;
     }
     if same(s, b"chip") {
-        return Word::Chip;
+        return Keyword::Chip;
     }
     if same(s, b"chip+") {
-        return Word::ChipSeal;
+        return Keyword::ChipSeal;
     }
     if same(s, b"draws") {
-        return Word::Draws;
+        return Keyword::Draws;
     }
     bare_word(s)
 }
 
-pub fn first_word(line: &[u8]) -> Said
+pub fn first_word(line: &[u8]) -> FirstWord
     ensures { λ r. ⌜ r ≡ firstWord (now (line .entry)) ⌝ }
 {
     let from = skip_blanks(line, 0);
     if from == line.len() {
-        return Said {
-            word: Word::Empty,
+        return FirstWord {
+            word: Keyword::Empty,
             rest: from,
         };
     }
     if line[from] == b'#' {
-        return Said {
-            word: Word::Comment,
+        return FirstWord {
+            word: Keyword::Comment,
             rest: line.len(),
         };
     }
     let to = word_end(line, from);
     let word = named(&line[from..to]);
-    Said {
+    FirstWord {
         word: word,
         rest: to,
     }

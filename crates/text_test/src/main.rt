@@ -1,52 +1,52 @@
 // Reads lines through a buffer of 64 bytes, and prints of each its number, its word, and its bytes or what is wrong with them.
 use libc::STDIN_FILENO;
-use text::hex::Run;
+use text::hex::HexRun;
 use text::hex::print_byte;
 use text::hex::print_bytes;
 use text::hex::print_uid;
 use text::hex::read_bytes;
-use text::lines::Kind;
+use text::lines::Reached;
 use text::lines::is_end;
 use text::lines::next;
 use text::lines::source_of;
 use text::print::line_end;
-use text::print::number;
+use text::print::print_number;
 use text::print::say;
 use text::print::say_number;
-use text::words::Word;
+use text::words::Keyword;
 use text::words::first_word;
 use text::words::is_blank_rest;
 
-fn name(w: Word) {
+fn name(w: Keyword) {
     match w {
-        Word::Empty => say(b" empty"),
-        Word::Comment => say(b" comment"),
-        Word::Off => say(b" off"),
-        Word::On => say(b" on"),
-        Word::Eof => say(b" eof"),
-        Word::Label => say(b" label"),
-        Word::LabelSeal => say(b" label+"),
-        Word::Chip => say(b" chip"),
-        Word::ChipSeal => say(b" chip+"),
-        Word::Draws => say(b" draws"),
-        Word::Unknown => say(b" unknown"),
+        Keyword::Empty => say(b" empty"),
+        Keyword::Comment => say(b" comment"),
+        Keyword::Off => say(b" off"),
+        Keyword::On => say(b" on"),
+        Keyword::Eof => say(b" eof"),
+        Keyword::Label => say(b" label"),
+        Keyword::LabelSeal => say(b" label+"),
+        Keyword::Chip => say(b" chip"),
+        Keyword::ChipSeal => say(b" chip+"),
+        Keyword::Draws => say(b" draws"),
+        Keyword::Unknown => say(b" unknown"),
     }
 }
 
 // Whether hex stands behind a word.
-fn takes_bytes(w: Word) -> bool {
+fn takes_bytes(w: Keyword) -> bool {
     match w {
-        Word::Label => true,
-        Word::LabelSeal => true,
-        Word::Chip => true,
-        Word::ChipSeal => true,
-        Word::Draws => true,
-        Word::Empty => false,
-        Word::Comment => false,
-        Word::Off => false,
-        Word::On => false,
-        Word::Eof => false,
-        Word::Unknown => false,
+        Keyword::Label => true,
+        Keyword::LabelSeal => true,
+        Keyword::Chip => true,
+        Keyword::ChipSeal => true,
+        Keyword::Draws => true,
+        Keyword::Empty => false,
+        Keyword::Comment => false,
+        Keyword::Off => false,
+        Keyword::On => false,
+        Keyword::Eof => false,
+        Keyword::Unknown => false,
     }
 }
 
@@ -59,18 +59,18 @@ fn bytes(s: &[u8]) {
     let mut out = [0u8; 8];
     let r = read_bytes(s, &mut out);
     match r {
-        Run::Bytes(n) => {
+        HexRun::Good(n) => {
             place(b" bytes ", n);
             say(b": ");
             print_bytes(&out[0..n]);
         }
-        Run::Bad(i) => place(b" bad at ", i),
-        Run::Odd(i) => place(b" odd at ", i),
-        Run::Full => say(b" full"),
+        HexRun::Bad(i) => place(b" bad at ", i),
+        HexRun::Odd(i) => place(b" odd at ", i),
+        HexRun::Full => say(b" full"),
     }
 }
 
-fn rest(w: Word, s: &[u8], from: usize) {
+fn rest(w: Keyword, s: &[u8], from: usize) {
     if takes_bytes(w) {
         if s.len() < from {
             return;
@@ -85,32 +85,32 @@ fn rest(w: Word, s: &[u8], from: usize) {
 }
 
 fn line(n: u64, s: &[u8]) {
-    number(n);
-    let said = first_word(s);
-    let word = said.word;
+    print_number(n);
+    let first = first_word(s);
+    let word = first.word;
     name(word);
-    rest(word, s, said.rest);
+    rest(word, s, first.rest);
     line_end();
 }
 
 fn too_long(n: u64) {
-    number(n);
+    print_number(n);
     say(b" too long\n");
 }
 
 // One answer of `next`: the number of lines so far.
-fn turn(n: u64, kind: Kind, s: &[u8]) -> u64 {
+fn turn(n: u64, reached: Reached, s: &[u8]) -> u64 {
     let more = std::num::wrapping_add_u64(n, 1);
-    match kind {
-        Kind::Line => {
+    match reached {
+        Reached::Line => {
             line(more, s);
             more
         }
-        Kind::Long => {
+        Reached::Long => {
             too_long(more);
             more
         }
-        Kind::End => n,
+        Reached::End => n,
     }
 }
 
@@ -122,13 +122,13 @@ fn lines(fd: i32, buf: &mut [u8]) {
     while 0 < left {
         left -= 1;
         let g = next(source, buf);
-        let kind = g.kind;
-        if is_end(kind) {
+        let reached = g.reached;
+        if is_end(reached) {
             return;
         }
         let from = g.from;
         let to = g.to;
-        n = turn(n, kind, &buf[from..to]);
+        n = turn(n, reached, &buf[from..to]);
         let s = g.source;
         source = s;
     }

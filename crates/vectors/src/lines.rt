@@ -21,13 +21,13 @@ use crate::readers;
 use crate::sums;
 use frame::number::byte_at;
 use libc::STDIN_FILENO;
-use script::lines::Step;
-use script::lines::step_of;
+use script::lines::Action;
+use script::lines::action_of;
 use script::replies::play_event;
 use script::replies::print_trouble;
-use text::hex::Run;
+use text::hex::HexRun;
 use text::hex::read_bytes;
-use text::lines::Kind;
+use text::lines::Reached;
 use text::lines::is_end;
 use text::lines::next;
 use text::lines::source_of;
@@ -54,10 +54,10 @@ fn read_hex(line: &[u8], out: &mut [u8]) -> usize
 {
     let run = read_bytes(line, out);
     match run {
-        Run::Bytes(n) => n,
-        Run::Bad(_) => 0,
-        Run::Odd(_) => 0,
-        Run::Full => 0,
+        HexRun::Good(n) => n,
+        HexRun::Bad(_) => 0,
+        HexRun::Odd(_) => 0,
+        HexRun::Full => 0,
     }
 }
 
@@ -82,14 +82,14 @@ fn poke(line: &[u8], tags: &mut [u8]) {
 // A line as the program play takes it.
 fn play_line(line: &[u8], tags: &mut [u8], draws: &mut [u8]) {
     let mut bytes = [0u8; 512];
-    let step = step_of(line, draws, &mut bytes);
-    match step {
-        Step::Nothing => {}
-        Step::Play(number, n) => {
+    let action = action_of(line, draws, &mut bytes);
+    match action {
+        Action::Nothing => {}
+        Action::Play(number, n) => {
             say(b" -> ");
             play_event(tags, number, &bytes[0..n], draws);
         }
-        Step::Wrong(trouble) => {
+        Action::Wrong(trouble) => {
             say(b" -> ");
             print_trouble(trouble);
         }
@@ -166,16 +166,16 @@ fn take(line: &[u8], tags: &mut [u8], len: usize, draws: &mut [u8]) -> usize {
 }
 
 // One answer of `next`.
-fn turn(kind: Kind, line: &[u8], tags: &mut [u8], len: usize, draws: &mut [u8]) -> usize {
-    match kind {
-        Kind::Line => {
+fn turn(reached: Reached, line: &[u8], tags: &mut [u8], len: usize, draws: &mut [u8]) -> usize {
+    match reached {
+        Reached::Line => {
             say(line);
             let now = take(line, tags, len, draws);
             say(b"\n");
             now
         }
-        Kind::Long => len,
-        Kind::End => len,
+        Reached::Long => len,
+        Reached::End => len,
     }
 }
 
@@ -187,13 +187,13 @@ fn lines(buf: &mut [u8], tags: &mut [u8], draws: &mut [u8]) {
     while 0 < left {
         left -= 1;
         let got = next(source, buf);
-        let kind = got.kind;
-        if is_end(kind) {
+        let reached = got.reached;
+        if is_end(reached) {
             return;
         }
         let from = got.from;
         let to = got.to;
-        len = turn(kind, &buf[from..to], tags, len, draws);
+        len = turn(reached, &buf[from..to], tags, len, draws);
         let s = got.source;
         source = s;
     }

@@ -12,7 +12,7 @@ use script::draws::draws_for;
 use station::fields::Fields;
 use station::fields::command_of;
 use text::hex::print_bytes;
-use text::print::number;
+use text::print::print_number;
 use text::print::say;
 use text::print::say_number;
 ghost use Prim.Native.Nat.{_≤_};
@@ -132,7 +132,7 @@ pub fn request(bytes: &[u8], tags: &mut [u8], draws: &[u8]) {
 pub fn narrow(bytes: &[u8]) {
     let mut out = [0xEEu8; 63];
     let w = write(bytes, &mut out);
-    number(w.number as u64);
+    print_number(w.number as u64);
 }
 
 // An answer to a command that was sent with one byte of data.

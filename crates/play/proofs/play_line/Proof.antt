@@ -3,34 +3,42 @@
 use borrow.Author.Needs.{needs}
 use denote.Ref.{now}
 use mathlib.Core.Path.{refl}
-use Rattle.script.specs.declared.lines.Step.the-variants as s
-use Rattle.script.proofs.Asks.{frame-inside, line-leaves, event-leaves, events-counted}
+use Rattle.script.specs.declared.lines.Action.the-variants as act
+use Rattle.script.proofs.LinesInside.{frame-inside}
+use Rattle.script.proofs.LinesRack.{line-leaves, event-leaves}
 use Rattle.play.proofs.play_line.Statement.{statement}
 use Rattle.play.proofs.play_line.Tie as tie
 
+abbrev told : tie.After-slice-known5 → tie.After-action-of
+told m = m .before .before .before .before
+
+abbrev start : tie.After-action-of → tie.Start
+start o = o .before .before .before .before .before .before .before
+
 returns : tie.Need-returns
 returns c =
-    let o = c .before .before .before .before .before .before in
-    let a = o .before .before .before .before .before .before .before .args in
-    let g = c .enum-told .given .1 in
-    (events-counted (now (a .line)) (now (a .draws)) (now (a .bytes)) (now (a .tags)) _ (o .step-of .ensures .0) s.Nothing _ (a .events) g refl, (line-leaves (now (a .line)) (now (a .draws)) (now (a .bytes)) (now (a .tags)) _ (o .step-of .ensures .0) s.Nothing _ g refl, o .step-of .ensures .1))
+    let o = told (c .before .before) in
+    let a = start o .args in
+    line-leaves (now (a .line)) (now (a .draws)) (now (a .bytes)) (now (a .tags)) (a .events) (o .action-of .ensures) act.Nothing (c .enum-told .given .1)
+    refl refl
 
 returns-2 : tie.Need-returns-2
 returns-2 c =
-    let k = c .before .before .before .before .before .before .before .before .before in
-    let o = k .before .before .before .before .before .before in
-    let a = o .before .before .before .before .before .before .before .args in
-    let e = o .step-of .ensures .1 in
-    let g = k .step .given .1 in
-    let n = c .before .before .before .before .before .before .before .wrapping-add-u64 .ensures in
-    (events-counted (now (a .line)) (now (a .draws)) (now (a .bytes)) (now (a .tags)) _ (o .step-of .ensures .0) (s.Play _ _) _ (a .events) g n, (event-leaves (now (a .line)) (now (a .draws)) (now (a .bytes)) (now (a .tags)) _ (o .step-of .ensures .0) _ _ _ _ _ g (e .0) (e .1) (c .before .before .play .ensures), e))
+    let p = c .before .before in
+    let n = p .before .before .before .before .before in
+    let k = n .before .before in
+    let o = told (k .before .before) in
+    let a = start o .args in
+    event-leaves (now (a .line)) (now (a .draws)) (now (a .bytes)) (now (a .tags)) (a .events) (o .action-of .ensures) _ _ (k .action .given .1)
+    (n .wrapping-add-u64 .ensures) (p .play .ensures)
 
 returns-3 : tie.Need-returns-3
 returns-3 c =
-    let o = c .before .before .before .before .before .before .before .before in
-    let a = o .before .before .before .before .before .before .before .args in
-    let g = c .before .before .step2 .given .1 in
-    (events-counted (now (a .line)) (now (a .draws)) (now (a .bytes)) (now (a .tags)) _ (o .step-of .ensures .0) (s.Wrong _) _ (a .events) g refl, (line-leaves (now (a .line)) (now (a .draws)) (now (a .bytes)) (now (a .tags)) _ (o .step-of .ensures .0) (s.Wrong _) _ g refl, o .step-of .ensures .1))
+    let k = c .before .before in
+    let o = told (k .before .before) in
+    let a = start o .args in
+    line-leaves (now (a .line)) (now (a .draws)) (now (a .bytes)) (now (a .tags)) (a .events) (o .action-of .ensures) (act.Wrong _) (k .action2 .given .1)
+    refl refl
 
 pub play-line-spec : {M : Type 1} → statement M
 play-line-spec =

@@ -6,7 +6,8 @@ use Rattle.play.proofs.play_lines.Statement.{statement}
 use Rattle.play.proofs.play_lines.Tie as tie
 
 abbrev Inv-loop : tie.InvT-loop
-Inv-loop tags₀ buf₀ draws₀ bytes₀ source₀ tally₀ left₀ tags buf draws bytes source tally left = (length tags ≡ length tags₀) × (length buf ≡ length buf₀) × (length draws ≡ length draws₀) × (length bytes ≡ length bytes₀)
+Inv-loop tags₀ buf₀ draws₀ bytes₀ source₀ tally₀ left₀ tags buf draws bytes source tally left =
+    (length tags ≡ length tags₀) × (length buf ≡ length buf₀) × (length draws ≡ length draws₀) × (length bytes ≡ length bytes₀)
 
 abbrev μ-loop : tie.MeasureT-loop
 μ-loop tags₀ buf₀ draws₀ bytes₀ source₀ tally₀ left₀ tags buf draws bytes source tally left = left

@@ -3,7 +3,7 @@
 use native.Mathlib.Omega.{arith}
 use lib.Bits.{xor-lt}
 use Rattle.frame.specs.CheckSum.{crcByte}
-use Rattle.frame.proofs.CheckSumLaws.{eight-shifts}
+use Rattle.frame.proofs.CheckSumRegister.{eight-shifts}
 use Rattle.frame.proofs.check_sum.one_byte.Statement.{statement}
 use Rattle.frame.proofs.check_sum.one_byte.Tie as tie
 

@@ -8,8 +8,9 @@ use lib.Dec.{eqb}
 use lib.ListN.{length}
 use borrow.Author.Needs.{needs}
 use Rattle.frame.specs.Number.{Bytes}
-use Rattle.frame.specs.CheckSum.{crcRun, rightWith, residue}
-use Rattle.frame.proofs.Frames.{right-run, right-short}
+use Rattle.frame.specs.CheckSum.{crcRun, rightWith}
+use Rattle.frame.proofs.CheckSumRegister.{residue}
+use Rattle.frame.proofs.CheckSumFrames.{right-run, right-short}
 use Rattle.frame.proofs.check_sum.right_with.Statement.{statement}
 use Rattle.frame.proofs.check_sum.right_with.Tie as tie
 

@@ -5,7 +5,7 @@ use Prim.Native.Nat.{_≤_, _<_, _-_, _*_, _^_}
 use lib.ListN.{take}
 use borrow.Author.Needs.{needs}
 use Rattle.frame.specs.CheckSum.{crcRun}
-use Rattle.frame.proofs.CheckSumLaws.{run-pair, run-pairs, run-last}
+use Rattle.frame.proofs.CheckSumRegister.{run-pair, run-pairs, run-last}
 use Rattle.frame.proofs.check_sum.run_wide.Statement.{statement}
 use Rattle.frame.proofs.check_sum.run_wide.Tie as tie
 
@@ -21,8 +21,10 @@ loop-holds c = (search needs, (refl, c .before .pre))
 
 loop-again : tie.Need-loop-again Inv-loop μ-loop
 loop-again c =
-    let a = c .before .before .before .before in
-    let e = run-pair _ _ (a .loop .k) (λ i. a .before .shared-slice-known .given i .fits) (a .loop .inv .1 .0) (c .two-bytes .ensures .0) (c .before .before .before .loop-test .taken) in
+    let t = c .before .before .before in
+    let a = t .before in
+    let v = a .loop .inv .1 in
+    let e = run-pair _ _ (a .loop .k) (λ i. a .before .shared-slice-known .given i .fits) (v .0) (c .two-bytes .ensures .0) (t .loop-test .taken) in
     (search needs, (e, c .two-bytes .ensures .1))
 
 returns : tie.Need-returns Inv-loop μ-loop

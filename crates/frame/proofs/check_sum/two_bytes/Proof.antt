@@ -3,7 +3,7 @@
 use native.Mathlib.Omega.{arith}
 use lib.Bits.{xor-lt}
 use borrow.Author.Needs.{needs}
-use Rattle.frame.proofs.CheckSumLaws.{sixteen-shifts}
+use Rattle.frame.proofs.CheckSumRegister.{sixteen-shifts}
 use Rattle.frame.proofs.check_sum.two_bytes.Statement.{statement}
 use Rattle.frame.proofs.check_sum.two_bytes.Tie as tie
 

@@ -6,6 +6,14 @@ use Rattle.frame.proofs.Puts.{sealed-part}
 use Rattle.frame.proofs.part.seal_part.Statement.{statement}
 use Rattle.frame.proofs.part.seal_part.Tie as tie
 
+returns : tie.Need-returns
+returns c =
+    let s = c .before .before in
+    let p = s .before .before .before .before in
+    let o = p .before .before .before .before .before in
+    let a = o .args in
+    sealed-part (a .n) (a .at) (a .k) (now (a .b)) (now (a .out)) (o .pre) (p .put-bytes .ensures) (s .seal .ensures)
+
 pub seal-part-spec : {M : Type 1} → statement M
 seal-part-spec =
     tie.close
@@ -17,7 +25,4 @@ seal-part-spec =
     (λ c κs. search needs)
     (λ c κs. search needs)
     (λ c. search needs)
-    (λ c. let s = c .before .before in
-    let p = s .before .before .before .before in
-    let a = c .before .before .before .before .before .before .before .before .before .before .before in
-    sealed-part (a .args .n) (a .args .at) (a .args .k) (now (a .args .b)) (now (a .args .out)) (a .pre .0) (a .pre .1) (p .put-bytes .ensures) (s .seal .ensures)))
+    returns)

@@ -1,7 +1,7 @@
 -- First the mask, then the four bits above it, as the definition has them.
 -- Assumes nothing.
 use borrow.Author.Needs.{needs}
-use Rattle.frame.proofs.Endings.{slot-yes, slot-no}
+use Rattle.frame.proofs.Ending.{slot-yes, slot-no}
 use Rattle.frame.proofs.uid.ends_in_slot.Statement.{statement}
 use Rattle.frame.proofs.uid.ends_in_slot.Tie as tie
 

@@ -1,9 +1,9 @@
--- A quotient by 2 ^ m below 64; from 64 on the number is below 2 ^ m, so nothing is above.
+-- A quotient by 2 ^ bits below 64; from 64 on the number is below 2 ^ bits, so nothing is above.
 -- Assumes nothing.
 use mathlib.Core.Path.{sym}
 use lib.Pow.{pow-pos}
 use borrow.Author.Needs.{needs}
-use Rattle.frame.proofs.Endings.{high-none}
+use Rattle.frame.proofs.Ending.{high-none}
 use Rattle.frame.proofs.uid.high_bits.Statement.{statement}
 use Rattle.frame.proofs.uid.high_bits.Tie as tie
 

@@ -1,9 +1,9 @@
--- A remainder by 2 ^ m below 64; at 64 the number is below 2 ^ m already.
+-- A remainder by 2 ^ bits below 64; at 64 the number is below 2 ^ bits already.
 -- Assumes nothing.
 use mathlib.Core.Path.{sym}
 use lib.Pow.{pow-pos}
 use borrow.Author.Needs.{needs}
-use Rattle.frame.proofs.Endings.{low-all}
+use Rattle.frame.proofs.Ending.{low-all}
 use Rattle.frame.proofs.uid.low_bits.Statement.{statement}
 use Rattle.frame.proofs.uid.low_bits.Tie as tie
 

@@ -1,7 +1,7 @@
 -- Below 64 a shift of one loses nothing.
 -- Assumes nothing.
 use borrow.Author.Needs.{needs}
-use Rattle.frame.proofs.Endings.{one-shl}
+use Rattle.frame.proofs.Ending.{one-shl}
 use Rattle.frame.proofs.uid.pow2.Statement.{statement}
 use Rattle.frame.proofs.uid.pow2.Tie as tie
 

@@ -6,7 +6,7 @@ use native.Mathlib.Nat.{le-antisymm}
 use denote.Ref.{now}
 use borrow.Author.Needs.{needs}
 use Rattle.frame.specs.Judge.{firstOf, fine, byteVerdict}
-use Rattle.frame.proofs.Verdicts.{first-none, byte-bad, byte-fine}
+use Rattle.frame.proofs.Judge.{first-none, byte-bad, byte-fine}
 use Rattle.frame.proofs.verdict.judge_bytes.Statement.{statement}
 use Rattle.frame.proofs.verdict.judge_bytes.Tie as tie
 

@@ -6,7 +6,7 @@ use native.Mathlib.Nat.{le-antisymm}
 use denote.Ref.{now}
 use borrow.Author.Needs.{needs}
 use Rattle.frame.specs.Judge.{firstOf, fine}
-use Rattle.frame.proofs.Verdicts.{first-none}
+use Rattle.frame.proofs.Judge.{first-none}
 use Rattle.label.specs.Body.{maskVerdict}
 use Rattle.label.proofs.Judging.{mask-bad, mask-fine}
 use Rattle.label.proofs.judge.judge_mask.Statement.{statement}

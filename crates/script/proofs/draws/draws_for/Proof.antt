@@ -1,6 +1,6 @@
 -- One test, as the definition has it. Assumes nothing.
 use borrow.Author.Needs.{needs}
-use Rattle.script.proofs.Pads.{few-all, few-most}
+use Rattle.script.proofs.LinesDraws.{few-all, few-most}
 use Rattle.script.proofs.draws.draws_for.Statement.{statement}
 use Rattle.script.proofs.draws.draws_for.Tie as tie
 

@@ -7,7 +7,7 @@ use mathlib.Core.Path.{_≡_, refl, sym, _∙_}
 use native.Mathlib.Omega.{arith}
 use Prim.Native.Nat.{_-_, _≤_, _<_}
 use Rattle.script.specs.Lines.{padded}
-use Rattle.script.proofs.Pads.{pad-start, pad-one, pad-none}
+use Rattle.script.proofs.LinesDraws.{pad-start, pad-one, pad-none}
 use Rattle.script.proofs.draws.set_draws.Statement.{statement}
 use Rattle.script.proofs.draws.set_draws.Tie as tie
 
@@ -30,7 +30,7 @@ loop-again c =
     let h : l .loop .i < length (now (a .draws)) = rw (sym (v .0)) z in (
       length-set (l .loop .draws) (l .loop .i) (c .byte-at .result) ∙ v .0,
       omega arith,
-      pad-one _ _ (now (a .bytes)) (length (now (a .draws))) (l .loop .i) _ h (c .byte-at .ensures) (v .2),
+      pad-one (length (now (a .draws))) (l .loop .i) (now (a .bytes)) _ _ (v .2) _ h (c .byte-at .ensures),
     )
 
 returns : tie.Need-returns Inv-loop μ-loop
@@ -39,7 +39,7 @@ returns c =
     let l = c .before in
     let z = c .loop-test .left in
     let h : length (now (a .draws)) ≤ l .loop .i = rw (sym (l .loop .inv .0)) z in
-    pad-none _ _ (now (a .bytes)) (length (now (a .draws))) (l .loop .i) h (l .loop .inv .2)
+    pad-none (length (now (a .draws))) (l .loop .i) (now (a .bytes)) _ _ (l .loop .inv .2) h
 
 pub set-draws-spec : {M : Type 1} → statement M
 set-draws-spec =

@@ -1,66 +1,71 @@
--- Each way a run can end is a law of Asks; a place in a run is one in the line. Assumes nothing.
+-- Each way a run can end is a law of LinesActions; a place in a run is one in the line. Assumes nothing.
 use borrow.Author.Needs.{needs}
 use denote.Ref.{now}
 use mathlib.Core.Path.{refl, ap}
 use native.Mathlib.Omega.{arith}
 use Prim.Native.Nat.{ℕ}
-use lib.ListN.{drop}
-use Rattle.text.specs.declared.hex.Run.the-variants as run
-use Rattle.text.proofs.Runs.{run-within}
+use Rattle.text.specs.declared.hex.HexRun.the-variants as run
 use Rattle.script.specs.declared.lines.Trouble.the-variants as t
-use Rattle.script.specs.declared.lines.Step.the-variants as s
-use Rattle.script.proofs.Asks.{from-there, column-inside, framed-by, framed-whole, framed-summed}
+use Rattle.script.specs.declared.lines.Action.the-variants as act
+use Rattle.script.proofs.LinesActions.{column-bad, column-odd, framed-by, framed-whole, framed-summed}
 use Rattle.script.proofs.lines.framed.Statement.{statement}
 use Rattle.script.proofs.lines.framed.Tie as tie
 
+abbrev start : tie.After-read-bytes → tie.Start
+start o = o .before .before .before .before .before
+
 returns : tie.Need-returns
 returns c =
-    let o = c .before .before .before .before .before .before in
-    let a = o .before .before .before .before .before .args in
-    framed-whole (a .rest) (drop (a .rest) (now (a .line))) (now (a .bytes)) _ _ (from-there (now (a .line)) (a .rest)) _ (o .read-bytes .ensures .0) (o .read-bytes .ensures .1) (a .number) (a .whole) _ (c .before .before .run .given .1) (c .if1 .taken)
+    let k = c .before .before in
+    let o = k .before .before .before .before in
+    let a = start o .args in
+    framed-whole (now (a .line)) (a .rest) (now (a .bytes)) (o .read-bytes .ensures) (a .number) (a .whole) _ (k .run .given .1) (c .if1 .taken)
 
 column-requires : tie.Need-column-requires
 column-requires c κs =
     let o = c .before .before .before .before .before in
-    let a = o .before .before .before .before .before .args in
-    let i = run-within _ _ _ (run.Bad _) (o .read-bytes .ensures .0) (c .before .run2 .given .1) in
-    let l = column-inside (now (a .line)) (a .rest) _ (omega arith) i in
+    let a = start o .args in
+    let l = column-bad (now (a .line)) (a .rest) (now (a .bytes)) (o .read-bytes .ensures) (omega arith) (c .before .run2 .given .1) in
     omega arith
 
 column-requires-2 : tie.Need-column-requires-2
 column-requires-2 c κs =
     let o = c .before .before .before .before .before in
-    let a = o .before .before .before .before .before .args in
-    let i = run-within _ _ _ (run.Odd _) (o .read-bytes .ensures .0) (c .before .run3 .given .1) in
-    let l = column-inside (now (a .line)) (a .rest) _ (omega arith) i in
+    let a = start o .args in
+    let l = column-odd (now (a .line)) (a .rest) (now (a .bytes)) (o .read-bytes .ensures) (omega arith) (c .before .run3 .given .1) in
     omega arith
 
 returns-2 : tie.Need-returns-2
 returns-2 c =
-    let o = c .before .before .before .before .before .before .before .before .before .before in
-    let a = o .before .before .before .before .before .args in
-    framed-summed (a .rest) (drop (a .rest) (now (a .line))) (now (a .bytes)) _ _ (from-there (now (a .line)) (a .rest)) _ (o .read-bytes .ensures .0) (o .read-bytes .ensures .1) (a .number) (a .whole) _ _ _ (c .before .before .before .before .before .before .run .given .1) (c .before .before .before .before .if1 .left)
-    (c .before .before .summed .ensures .0) (c .before .before .summed .ensures .1)
+    let s = c .before .before in
+    let i = s .before .before in
+    let k = i .before .before in
+    let o = k .before .before .before .before in
+    let a = start o .args in
+    framed-summed (now (a .line)) (a .rest) (now (a .bytes)) (o .read-bytes .ensures) (a .number) (a .whole) _ (k .run .given .1) (i .if1 .left)
+    (s .summed .ensures)
 
 returns-3 : tie.Need-returns-3
 returns-3 c =
-    let o = c .before .before .before .before .before .before in
-    let a = o .before .before .before .before .before .args in
-    framed-by (a .rest) (drop (a .rest) (now (a .line))) (now (a .bytes)) _ _ (from-there (now (a .line)) (a .rest)) _ (o .read-bytes .ensures .0) (o .read-bytes .ensures .1) (a .number) (a .whole) (run.Bad _) _ _ (c .before .before .run2 .given .1)
-    (ap (λ (x : ℕ). s.Wrong (t.Bad x)) (c .column .ensures)) refl
+    let k = c .before .before in
+    let o = k .before .before .before .before in
+    let a = start o .args in
+    framed-by (now (a .line)) (a .rest) (now (a .bytes)) (o .read-bytes .ensures) (a .number) (a .whole) (run.Bad _) (k .run2 .given .1)
+    (ap (λ (x : ℕ). act.Wrong (t.Bad x)) (c .column .ensures)) refl
 
 returns-4 : tie.Need-returns-4
 returns-4 c =
-    let o = c .before .before .before .before .before .before in
-    let a = o .before .before .before .before .before .args in
-    framed-by (a .rest) (drop (a .rest) (now (a .line))) (now (a .bytes)) _ _ (from-there (now (a .line)) (a .rest)) _ (o .read-bytes .ensures .0) (o .read-bytes .ensures .1) (a .number) (a .whole) (run.Odd _) _ _ (c .before .before .run3 .given .1)
-    (ap (λ (x : ℕ). s.Wrong (t.Odd x)) (c .column2 .ensures)) refl
+    let k = c .before .before in
+    let o = k .before .before .before .before in
+    let a = start o .args in
+    framed-by (now (a .line)) (a .rest) (now (a .bytes)) (o .read-bytes .ensures) (a .number) (a .whole) (run.Odd _) (k .run3 .given .1)
+    (ap (λ (x : ℕ). act.Wrong (t.Odd x)) (c .column2 .ensures)) refl
 
 returns-5 : tie.Need-returns-5
 returns-5 c =
     let o = c .before .before .before .before in
-    let a = o .before .before .before .before .before .args in
-    framed-by (a .rest) (drop (a .rest) (now (a .line))) (now (a .bytes)) _ _ (from-there (now (a .line)) (a .rest)) _ (o .read-bytes .ensures .0) (o .read-bytes .ensures .1) (a .number) (a .whole) run.Full _ _ (c .enum-told .given .1) refl refl
+    let a = start o .args in
+    framed-by (now (a .line)) (a .rest) (now (a .bytes)) (o .read-bytes .ensures) (a .number) (a .whole) run.Full (c .enum-told .given .1) refl refl
 
 pub framed-spec : {M : Type 1} → statement M
 framed-spec =

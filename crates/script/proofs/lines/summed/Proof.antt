@@ -2,7 +2,7 @@
 use borrow.Author.Needs.{needs}
 use denote.Ref.{now}
 use native.Mathlib.Omega.{arith}
-use Rattle.script.proofs.Asks.{sum-full, sum-done}
+use Rattle.script.proofs.LinesActions.{sum-full, sum-done}
 use Rattle.script.proofs.lines.summed.Statement.{statement}
 use Rattle.script.proofs.lines.summed.Tie as tie
 
@@ -16,7 +16,7 @@ returns-3 : tie.Need-returns-3
 returns-3 c =
     let o = c .before .before in
     let a = o .before .before .before .before .before .args in
-    sum-done (a .number) (a .n) _ (now (a .bytes)) _ (omega arith) (o .seal .ensures .0) (o .seal .ensures .1)
+    sum-done (a .number) (a .n) (now (a .bytes)) (omega arith) (o .seal .ensures)
 
 pub summed-spec : {M : Type 1} → statement M
 summed-spec =

@@ -1,7 +1,7 @@
 -- The event's own statement, at the draws that the rack takes. Assumes nothing.
 use borrow.Author.Needs.{needs}
 use denote.Ref.{now}
-use Rattle.script.proofs.Pads.{few-inside, event-left}
+use Rattle.script.proofs.LinesDraws.{few-inside, event-left}
 use Rattle.script.proofs.replies.play_event.Statement.{statement}
 use Rattle.script.proofs.replies.play_event.Tie as tie
 

@@ -8,7 +8,7 @@ use mathlib.Core.List.{[], _∷_}
 use native.Mathlib.Omega.{arith}
 use Prim.Native.Nat.{_*_, _-_, _≤_}
 use Rattle.text.specs.Hex.{hexText}
-use Rattle.text.proofs.Texts.{lay-one, lay-none}
+use Rattle.text.proofs.HexText.{lay-one, lay-none}
 use Rattle.text.proofs.hex.lay.Statement.{statement}
 use Rattle.text.proofs.hex.lay.Tie as tie
 
@@ -36,13 +36,13 @@ loop-again c =
     let s = now (l .before .before .before .args .s) in
     let h = p .before .before .before .loop-test .taken in
     let e = length-sets (l .loop .text) (l .loop .n) (hexText (getD s (l .loop .i) 0 ∷ [])) in
-    (ap length (p .put .ensures) ∙ e ∙ v .0, omega arith, omega arith, lay-one s (l .loop .text) _ _ (l .loop .i) (l .loop .n) h (p .put .ensures) (v .3))
+    (ap length (p .put .ensures) ∙ e ∙ v .0, omega arith, omega arith, lay-one s (l .loop .text) _ (l .loop .i) (l .loop .n) (v .3) _ h (p .put .ensures))
 
 returns : tie.Need-returns Inv-loop μ-loop
 returns c =
     let v = c .before .loop .inv in
     let s = now (c .before .before .before .before .args .s) in
-    (omega arith, lay-none s _ _ _ _ (c .loop-test .left) (v .3))
+    (omega arith, lay-none s _ _ _ _ (v .3) (c .loop-test .left))
 
 pub lay-spec : {M : Type 1} → statement M
 lay-spec =

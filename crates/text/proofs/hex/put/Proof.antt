@@ -5,7 +5,7 @@ use lib.ListN.{length-set}
 use mathlib.Core.Path.{refl}
 use native.Mathlib.Omega.{arith}
 use Prim.Native.Nat.{_+_}
-use Rattle.text.proofs.Texts.{text-put}
+use Rattle.text.proofs.HexText.{text-put}
 use Rattle.text.proofs.hex.put.Statement.{statement}
 use Rattle.text.proofs.hex.put.Tie as tie
 

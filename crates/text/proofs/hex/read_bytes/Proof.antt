@@ -3,7 +3,7 @@ use borrow.Author.Needs.{needs}
 use native.Mathlib.Omega.{arith}
 use lib.ListN.{length}
 use Prim.Native.Nat.{_-_}
-use Rattle.text.proofs.Runs.{Reads, reads-start, reads-end, reads-stop, byte-room, byte-there, reads-byte}
+use Rattle.text.proofs.RunsPlaces.{Reads, reads-start, reads-end, reads-stop, byte-room, byte-there, reads-byte}
 use Rattle.text.proofs.hex.read_bytes.Statement.{statement}
 use Rattle.text.proofs.hex.read_bytes.Tie as tie
 
@@ -41,7 +41,9 @@ loop-less c =
 loop-again : tie.Need-loop-again Inv-loop μ-loop
 loop-again c =
     let p = c .before .before .before .before in
-    reads-byte _ _ _ _ _ (p .before .before .loop .inv) _ (p .before .loop-test .taken) (p .piece-at .ensures) _ (c .before .before .p2 .given .1) _ (c .skip-blanks2 .ensures)
+    let t = p .before in
+    let g = c .before .before .p2 .given .1 in
+    reads-byte _ _ _ _ _ (t .before .loop .inv) _ (t .loop-test .taken) (p .piece-at .ensures) _ g _ (c .skip-blanks2 .ensures)
 
 returns-2 : tie.Need-returns-2 Inv-loop μ-loop
 returns-2 c = reads-end _ _ _ _ _ (c .before .loop .inv) (c .loop-test .left)

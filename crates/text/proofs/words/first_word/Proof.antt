@@ -1,47 +1,47 @@
 -- Behind the blanks stands nothing, a comment or a word. Assumes nothing.
 use borrow.Author.Needs.{needs}
 use denote.Ref.{now}
+use mathlib.Core.List.{List}
 use native.Mathlib.Omega.{arith}
-use Rattle.text.specs.Words.{blank, solid}
-use Rattle.text.proofs.Leads.{lead-from}
-use Rattle.text.proofs.Firsts.{word-none, word-comment, word-there}
+use Prim.Native.Nat.{ℕ, _≤_}
+use lib.ListN.{length}
+use Rattle.text.specs.Words.{isBlank, solid}
+use Rattle.text.proofs.WordsLead.{lead-from}
+use Rattle.text.proofs.WordsFirst.{word-none, word-comment, word-there}
 use Rattle.text.proofs.words.first_word.Statement.{statement}
 use Rattle.text.proofs.words.first_word.Tie as tie
 
+abbrev line : tie.After-skip-blanks → List ℕ
+line o = now (o .before .before .args .line)
+
+-- the word starts within the line
+inside : (o : tie.After-skip-blanks) → o .skip-blanks .result ≤ length (line o)
+inside o = let k = lead-from isBlank (line o) 0 (omega arith) in let e = o .skip-blanks .ensures in omega arith
+
 returns : tie.Need-returns
-returns c = word-none (now (c .before .before .before .args .line)) _ (c .before .skip-blanks .ensures) (c .if1 .taken)
+returns c = word-none (line (c .before)) _ (c .before .skip-blanks .ensures) (c .if1 .taken)
 
 shared-slice-read-if2 : tie.Need-shared-slice-read-if2
-shared-slice-read-if2 c =
-    let k = lead-from blank (now (c .before .before .before .before .args .line)) 0 (omega arith) in
-    let e = c .before .before .skip-blanks .ensures in
-    let h = c .before .if1 .left in
-    omega arith
+shared-slice-read-if2 c = let k = inside (c .before .before) in let h = c .before .if1 .left in omega arith
 
 returns-2 : tie.Need-returns-2
 returns-2 c =
-    word-comment (now (c .before .before .before .before .before .args .line)) _ (c .before .before .before .skip-blanks .ensures) (c .before .before .if1 .left) (c .if2 .taken)
-
-word-end-requires : tie.Need-word-end-requires
-word-end-requires c κs =
-    let k = lead-from blank (now (c .before .before .before .before .before .args .line)) 0 (omega arith) in
-    let e = c .before .before .before .skip-blanks .ensures in
-    omega arith
+    let l = c .before .before in
+    word-comment (line (l .before)) _ (l .before .skip-blanks .ensures) (l .if1 .left) (c .if2 .taken)
 
 part-named-end : tie.Need-part-named-end
 part-named-end c =
-    let s = now (c .before .before .before .before .before .before .args .line) in
-    let e = c .before .before .before .before .skip-blanks .ensures in
-    let k = lead-from blank s 0 (omega arith) in
-    let l = lead-from solid s (c .before .before .before .before .skip-blanks .result) (omega arith) in
+    let o = c .before .before .before .before in
+    let l = lead-from solid (line o) (o .skip-blanks .result) (inside o) in
     let f = c .word-end .ensures in
     omega arith
 
 returns-3 : tie.Need-returns-3
 returns-3 c =
-    let o = c .before .before .before .before .before .before in
-    word-there (now (o .before .before .args .line)) _ (o .skip-blanks .ensures) _ _ (c .before .before .before .before .before .if1 .left) (c .before .before .before .if2 .left)
-    (c .before .before .word-end .ensures) (c .named .ensures)
+    let t = c .before .before in
+    let l = t .before .before .before in
+    let o = l .before in
+    word-there (line o) _ (o .skip-blanks .ensures) _ _ (l .if1 .left) (t .before .if2 .left) (t .word-end .ensures) (c .named .ensures)
 
 pub first-word-spec : {M : Type 1} → statement M
 first-word-spec =
@@ -51,7 +51,7 @@ first-word-spec =
     returns
     shared-slice-read-if2
     returns-2
-    word-end-requires
+    (λ c κs. inside (c .before .before .before))
     (λ c. search needs)
     (λ c. search needs)
     part-named-end

@@ -1,7 +1,7 @@
 -- The words stand in the definition's order. Assumes nothing.
 use borrow.Author.Needs.{needs}
 use Rattle.text.specs.Words.{wordOf}
-use Rattle.text.proofs.Sames.{ladder}
+use Rattle.frame.proofs.Tests.{ladder}
 use Rattle.text.proofs.words.named.Statement.{statement}
 use Rattle.text.proofs.words.named.Tie as tie
 

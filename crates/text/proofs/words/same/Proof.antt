@@ -6,7 +6,7 @@ use denote.Ref.{now}
 use native.Mathlib.Omega.{arith}
 use Prim.Native.Nat.{_-_}
 use Rattle.text.specs.Words.{sameText}
-use Rattle.text.proofs.Sames.{other-length, other-byte, same-byte, same-all}
+use Rattle.text.proofs.WordsSame.{other-length, other-byte, same-byte, same-all}
 use Rattle.text.proofs.words.same.Statement.{statement}
 use Rattle.text.proofs.words.same.Tie as tie
 
@@ -16,23 +16,28 @@ Inv-loop a b i₀ i = sameText a b ≡ sameText (drop i a) (drop i b)
 abbrev μ-loop : tie.MeasureT-loop
 μ-loop a b i₀ i = length a - i
 
+abbrev start : tie.At-loop Inv-loop μ-loop → tie.Start Inv-loop μ-loop
+start l = l .before .before
+
 returns : tie.Need-returns Inv-loop μ-loop
 returns c = let a = c .before .args in other-length (now (a .a)) (now (a .b)) (c .if1 .taken)
 
 returns-2 : tie.Need-returns-2 Inv-loop μ-loop
 returns-2 c =
-    let a = c .before .before .before .before .before .before .args in
-    let t = c .before .before .before .loop-test .taken in
-    other-byte (now (a .a)) (now (a .b)) _ t (omega arith) (c .if2 .taken) (c .before .before .before .before .loop .inv)
+    let t = c .before .before .before in
+    let a = start (t .before) .args in
+    other-byte (now (a .a)) (now (a .b)) _ (t .before .loop .inv) (t .loop-test .taken) (omega arith) (c .if2 .taken)
 
 loop-again : tie.Need-loop-again Inv-loop μ-loop
 loop-again c =
-    let a = c .before .before .before .before .before .before .args in
-    let t = c .before .before .before .loop-test .taken in
-    same-byte (now (a .a)) (now (a .b)) _ t (omega arith) (c .if2 .left) (c .before .before .before .before .loop .inv)
+    let t = c .before .before .before in
+    let a = start (t .before) .args in
+    same-byte (now (a .a)) (now (a .b)) _ (t .before .loop .inv) (t .loop-test .taken) (omega arith) (c .if2 .left)
 
 returns-3 : tie.Need-returns-3 Inv-loop μ-loop
-returns-3 c = let a = c .before .before .before .args in same-all (now (a .a)) (now (a .b)) _ (c .loop-test .left) (omega arith) (c .before .loop .inv)
+returns-3 c =
+    let a = start (c .before) .args in
+    same-all (now (a .a)) (now (a .b)) _ (c .before .loop .inv) (c .loop-test .left) (omega arith)
 
 pub same-spec : {M : Type 1} → statement M
 same-spec =

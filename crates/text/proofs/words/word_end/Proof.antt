@@ -4,29 +4,28 @@ use lib.ListN.{length, drop}
 use mathlib.Core.Path.{_≡_, ap, sym, _∙_}
 use mathlib.Core.Bool.{not}
 use Prim.Native.Nat.{_+_, _-_, _≤_}
-use Rattle.text.specs.Words.{solid, leading}
-use Rattle.text.proofs.Leads.{lead-none, lead-stop, lead-go}
+use Rattle.text.specs.Words.{solid, lead}
+use Rattle.text.proofs.WordsLead.{lead-none, lead-stop, lead-go}
 use Rattle.text.proofs.words.word_end.Statement.{statement}
 use Rattle.text.proofs.words.word_end.Tie as tie
 
 abbrev Inv-loop : tie.InvT-loop
-Inv-loop s from i₀ i = (i ≤ length s) × (i + leading solid (drop i s) ≡ from + leading solid (drop from s))
+Inv-loop s from i₀ i = (i ≤ length s) × (i + lead solid (drop i s) ≡ from + lead solid (drop from s))
 
 abbrev μ-loop : tie.MeasureT-loop
 μ-loop s from i₀ i = length s - i
 
-loop-holds : tie.Need-loop-holds Inv-loop μ-loop
-loop-holds c = search needs
-
 returns : tie.Need-returns Inv-loop μ-loop
 returns c =
-    let l = c .before .before .before .before in
-    lead-stop solid _ _ _ (l .loop .inv .1) (c .before .before .before .loop-test .taken) (ap not (sym (c .before .is-blank .ensures) ∙ c .if1 .taken))
+    let o = c .before in
+    let t = o .before .before in
+    lead-stop solid _ _ _ (t .before .loop .inv .1) (t .loop-test .taken) (ap not (sym (o .is-blank .ensures) ∙ c .if1 .taken))
 
 loop-again : tie.Need-loop-again Inv-loop μ-loop
 loop-again c =
-    let l = c .before .before .before .before in
-    (search needs, lead-go solid _ _ _ (l .loop .inv .1) (c .before .before .before .loop-test .taken) (ap not (sym (c .before .is-blank .ensures) ∙ c .if1 .left)))
+    let o = c .before in
+    let t = o .before .before in
+    (search needs, lead-go solid _ _ _ (t .before .loop .inv .1) (t .loop-test .taken) (ap not (sym (o .is-blank .ensures) ∙ c .if1 .left)))
 
 returns-2 : tie.Need-returns-2 Inv-loop μ-loop
 returns-2 c = lead-none solid _ _ _ (c .before .loop .inv .1) (c .loop-test .left)
@@ -37,7 +36,7 @@ word-end-spec =
     (tie.spec
     Inv-loop
     μ-loop
-    loop-holds
+    (λ c. search needs)
     (λ c. search needs)
     (λ c κs. search needs)
     returns

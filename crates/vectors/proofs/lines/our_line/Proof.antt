@@ -1,7 +1,7 @@
 -- A word ends within its line. Assumes nothing.
 use borrow.Author.Needs.{needs}
 use denote.Ref.{now}
-use Rattle.text.proofs.Firsts.{word-inside}
+use Rattle.text.proofs.WordsFirst.{word-inside}
 use Rattle.vectors.proofs.lines.our_line.Statement.{statement}
 use Rattle.vectors.proofs.lines.our_line.Tie as tie
 

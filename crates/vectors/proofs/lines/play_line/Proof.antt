@@ -1,5 +1,5 @@
 -- The bytes of a line are within the buffer that they were read to. Assumes nothing.
-use Rattle.script.proofs.Asks.{frame-inside}
+use Rattle.script.proofs.LinesInside.{frame-inside}
 use borrow.Author.Needs.{needs}
 use Rattle.vectors.proofs.lines.play_line.Statement.{statement}
 use Rattle.vectors.proofs.lines.play_line.Tie as tie

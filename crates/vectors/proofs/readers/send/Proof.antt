@@ -1,6 +1,6 @@
 -- No more draws than are at hand. Assumes nothing.
 use borrow.Author.Needs.{needs}
-use Rattle.script.proofs.Pads.{few-inside}
+use Rattle.script.proofs.LinesDraws.{few-inside}
 use Rattle.vectors.proofs.readers.send.Statement.{statement}
 use Rattle.vectors.proofs.readers.send.Tie as tie
 

@@ -83,12 +83,6 @@ module _ (f : ℕ → Verdict) where
   first-all zero h = first-none
   first-all (suc n) h = rw (first-suc, first-all n (λ i l. h i (omega arith)), h n (omega arith))
 
--- only the verdicts below n count
-pub first-ext : (f g : ℕ → Verdict) (n : ℕ) → ((i : ℕ) → i < n → f i ≡ g i) → firstOf n f ≡ firstOf n g
-first-ext f g zero h = first-none f ∙ sym (first-none g)
-first-ext f g (suc n) h =
-    rw (first-suc f n, first-suc g n, first-ext f g n (λ i l. h i (omega arith)), h n (omega arith))
-
 -- ---- a loop over bytes that stops at the first one above `most`
 module _ (b : List ℕ) (at most : ℕ) where
   over : (j : ℕ) → most < getD b (at + j) 0 → byteVerdict b at most j ≡ bad 13 (at + j)

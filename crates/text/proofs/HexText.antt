@@ -16,11 +16,12 @@ text-put t n b x y z k l e f g h q =
     rw (i, j, e, f, q) refl
 
 -- a turn lays one, and the last leaves nothing to lay
-pub lay-one : (s t t₁ fin : List ℕ) (i n : ℕ) → i < length s → t₁ ≡ sets t n (hexText (getD s i 0 ∷ [])) → sets t n (hexText (drop i s)) ≡ fin → sets t₁ (n + 3) (hexText (drop (i + 1) s)) ≡ fin
-lay-one s t t₁ fin i n h e g =
-    let j : n + 3 ≡ suc (suc (suc n)) = omega arith in
-    let k : i + 1 ≡ suc i = omega arith in
-    rw (e, j, k) (ap (λ (u : List ℕ). sets t n (hexText u)) (sym (drop-cons s i 0 h)) ∙ g)
+module _ (s t fin : List ℕ) (i n : ℕ) (g : sets t n (hexText (drop i s)) ≡ fin) where
+  pub lay-one : (t₁ : List ℕ) → i < length s → t₁ ≡ sets t n (hexText (getD s i 0 ∷ [])) → sets t₁ (n + 3) (hexText (drop (i + 1) s)) ≡ fin
+  lay-one t₁ h e =
+      let j : n + 3 ≡ suc (suc (suc n)) = omega arith in
+      let k : i + 1 ≡ suc i = omega arith in
+      rw (e, j, k) (ap (λ (u : List ℕ). sets t n (hexText u)) (sym (drop-cons s i 0 h)) ∙ g)
 
-pub lay-none : (s t fin : List ℕ) (i n : ℕ) → length s ≤ i → sets t n (hexText (drop i s)) ≡ fin → t ≡ fin
-lay-none s t fin i n h g = ap (λ (u : List ℕ). sets t n (hexText u)) (sym (drop-of-length-le s {i = i} h)) ∙ g
+  pub lay-none : length s ≤ i → t ≡ fin
+  lay-none h = ap (λ (u : List ℕ). sets t n (hexText u)) (sym (drop-of-length-le s {i = i} h)) ∙ g

@@ -12,10 +12,10 @@ use lib.ListN.{length, getD, take, length-append}
 use lib.Seq.{take-suc, take-all, take-at, drop-at}
 use borrow.Author.Tests.{eqb-true, eq-eqb, le-leb, leb-true, lt-leb}
 use Rattle.frame.specs.Number.{num, bytesOf, part, Bytes}
-use Rattle.frame.specs.CheckSum.{crcRun, crcEnd, crcWith, framedWith, content, rightWith, residue, framed, right}
+use Rattle.frame.specs.CheckSum.{crcRun, crcEnd, crcWith, framedWith, content, rightWith, framed, right}
 use Rattle.frame.proofs.Bools.{eqb-same, and-both}
 use Rattle.frame.proofs.Numbers.{bytes-take, bytes-append, bytes-small}
-use Rattle.frame.proofs.CheckSumLaws.{run-append, run-lt, sum-lt, sum-inverted-lt, sum-leaves, sum-only}
+use Rattle.frame.proofs.CheckSumRegister.{residue, run-append, run-lt, sum-lt, sum-inverted-lt, sum-leaves, sum-only}
 
 -- ---- a list and its last two elements
 

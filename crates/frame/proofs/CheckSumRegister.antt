@@ -13,7 +13,7 @@ use lib.ListN.{length, take, getD}
 use lib.Seq.{take-suc, take-all}
 use lib.Bits.{bitXor, differ, xor-zero-r, xor-lt, xor-self, xor-comm, xor-shifted, shifted-half, shifted-even}
 use Rattle.frame.specs.Number.{Bytes}
-use Rattle.frame.specs.CheckSum.{polynomial, crcBit, crcBits, crcByte, crcRun, crcEnd, crcWith, residue}
+use Rattle.frame.specs.CheckSum.{polynomial, crcBit, crcBits, crcByte, crcRun, crcEnd, crcWith}
 use Rattle.frame.proofs.Linear.{Linear, itself, plus, after, down, low, up, by-powers}
 use Rattle.frame.proofs.Xor.{xor-half, xor-odd, xor-swap, xor-assoc, xor-again, xor-eq, xor-ones}
 
@@ -208,6 +208,11 @@ flip-lt false = lit< tt
 end-xor : (inv : Bool) (r : ℕ) → r < 2 ^ 16 → crcEnd inv r ≡ bitXor r (flip inv)
 end-xor true r h = sym (xor-ones 16 r h)
 end-xor false r h = sym (xor-zero-r r)
+
+-- what a frame with its check sum run through leaves in the register
+abbrev pub residue : Bool → ℕ
+residue true = 0xF0B8
+residue false = 0
 
 leaves : (inv : Bool) → crcBits 16 (flip inv) ≡ residue inv
 unfolding crcBits crcBit
