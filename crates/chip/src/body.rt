@@ -5,6 +5,7 @@ use crate::step::Stepped;
 use crate::step::Work;
 use frame::number::word_at;
 use frame::put::put_number;
+use frame::uid::uid_at;
 use frame::verdict::Verdict;
 use frame::verdict::good;
 use frame::verdict::offence;
@@ -14,7 +15,8 @@ ghost use mathlib.Core.Bool.{not, _&&_, _||_};
 ghost use lib.Dec.{eqb, ltb};
 ghost use Prim.Native.Nat.{_≤_};
 ghost use lib.ListN.{length};
-ghost use Rattle.chip.specs.Body.{chipRules, loadOf, storeOf, placeOf, named, worked, stepped, nextChip, saidChip};
+ghost use Rattle.frame.specs.Number.{part};
+ghost use Rattle.chip.specs.Body.{chipRules, loadOf, storeOf, placeOf, blockAt, named, worked, stepped, nextChip, saidChip};
 
 // In state 0 Chip_ID is 0.
 fn wrong_id(state: u8, id: u8) -> bool
@@ -114,6 +116,21 @@ pub fn place(a: u8) -> usize
     64
 }
 
+// Block a.
+pub fn block_of(b: &[u8], a: u8) -> u32
+    requires { ⌜ 80 ≤ length (now b) ⌝ }
+    ensures { λ r. ⌜ r ≡ blockAt a (now (b .entry)) ⌝ }
+{
+    word_at(b, place(a))
+}
+
+pub fn uid_of(b: &[u8]) -> [u8; 8]
+    requires { ⌜ 80 ≤ length (now b) ⌝ }
+    ensures { λ r. ⌜ r ≡ part 68 8 (now (b .entry)) ⌝ }
+{
+    uid_at(b, 68)
+}
+
 // The block that an order writes to, as it is before.
 fn named_block(b: &[u8], order: Order) -> u32
     requires { ⌜ 80 ≤ length (now b) ⌝ }
@@ -122,8 +139,7 @@ fn named_block(b: &[u8], order: Order) -> u32
     let Order::Write(a, _) = order else {
         return 0;
     };
-    let at = place(a);
-    word_at(b, at)
+    block_of(b, a)
 }
 
 // Writes the block that a step writes.
@@ -145,7 +161,7 @@ fn act_on(b: &[u8], order: Order, draw: u8) -> Stepped
 {
     let c = load(b);
     let o = named_block(b, order);
-    let s = word_at(b, 64);
+    let s = block_of(b, 255);
     c.act(order, draw, o, s)
 }
 

@@ -1,10 +1,10 @@
 // The event.
+use crate::file::body_of;
 use crate::file::count;
 use crate::file::entry_of;
 use crate::file::judge;
 use crate::file::kind_of;
 use crate::file::length_of;
-use crate::file::offset_of;
 use crate::tag::Kind;
 use crate::tag::Said;
 use crate::tag::speaking;
@@ -120,9 +120,7 @@ fn tell(rack: &[u8], i: usize, said: Said, answer: &mut [u8]) -> usize
     requires { ⌜ Tellable (now rack) i said × (length (frameOf said (bodyOf (now rack) i)) ≤ length (now answer)) ⌝ }
     ensures { λ r. ⌜ (r ≡ length (frameOf said (bodyOf (now (rack .entry)) i))) × (now (answer .exit) ≡ sets (now (answer .entry)) 0 (frameOf said (bodyOf (now (rack .entry)) i))) ⌝ }
 {
-    let at = offset_of(rack, i);
-    let end = at + length_of(rack, i);
-    write_said(said, &rack[at..end], answer)
+    write_said(said, body_of(rack, i), answer)
 }
 
 // Plays an event: 1 field off, 2 field on, 3 label frame, 4 bare end of frame, 5 chip frame.

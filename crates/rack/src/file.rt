@@ -13,7 +13,7 @@ ghost use Prim.Native.Nat.{_+_, _≤_, _<_};
 ghost use lib.ListN.{length};
 ghost use Rattle.frame.specs.Judge.{firstOf};
 ghost use Rattle.rack.specs.File.{countOf, entryAt, kindAt, lengthAt, offsetAt, startOf, headVerdict, entryVerdict, bodyVerdict, endVerdict, verdictOf};
-ghost use Rattle.rack.specs.Facts.{HeadFine, EntryFine, EntriesFine};
+ghost use Rattle.rack.specs.Facts.{HeadFine, EntryFine, EntriesFine, bodyOf};
 
 // The number of tags.
 pub fn count(rack: &[u8]) -> usize
@@ -53,6 +53,17 @@ pub fn offset_of(rack: &[u8], i: usize) -> usize
     ensures { λ r. ⌜ r ≡ offsetAt (now (rack .entry)) i ⌝ }
 {
     number_at(rack, entry_of(i) + 4, 4) as usize
+}
+
+// The body of tag i, where its entry says that it lies.
+pub fn body_of(rack: &[u8], i: usize) -> &[u8]
+    requires { ⌜ (i < 64) × (entryAt i + 8 ≤ length (now rack)) ⌝ }
+    requires { ⌜ offsetAt (now rack) i + lengthAt (now rack) i ≤ length (now rack) ⌝ }
+    ensures { λ r. ⌜ now r ≡ bodyOf (now (rack .entry)) i ⌝ }
+{
+    let at = offset_of(rack, i);
+    let end = at + length_of(rack, i);
+    &rack[at..end]
 }
 
 fn judge_head(rack: &[u8]) -> Verdict

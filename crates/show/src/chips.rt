@@ -1,10 +1,15 @@
 // A chip's line: UID, state, Chip_ID, the one it has by the fixed-ID option, the counters in blocks 5 and 6, reload, what is locked.
-use crate::words::eight;
-use crate::words::four;
-use crate::words::number;
-use frame::number::byte_at;
+use crate::words::locked;
+use crate::words::word;
+use chip::body::block_of;
+use chip::body::load;
+use chip::body::uid_of;
+use chip::step::is_locked;
+use text::hex::print_uid;
 use text::hex::say_byte;
 use text::print::say;
+ghost use Prim.Native.Nat.{_≤_};
+ghost use lib.ListN.{length};
 
 fn state(s: u8) {
     match s {
@@ -17,37 +22,34 @@ fn state(s: u8) {
     }
 }
 
-// The blocks that bits 31 to 16 of block 255 lock, where they are 0.
-fn locked_blocks(low: u8, high: u8) {
-    let mut left = low as usize + 256 * high as usize;
+// The blocks that block 255, s, locks.
+fn locked_blocks(s: u32) {
     let mut named = false;
-    let mut i = 0;
-    while i < 16 {
-        if left % 2 == 0 {
-            if !named {
-                say(b", locked blocks");
-            }
+    let mut a: u8 = 0;
+    while a < 16 {
+        if is_locked(s, a) {
+            locked(named, a);
             named = true;
-            say(b" ");
-            number(i);
         }
-        left = left / 2;
-        i += 1;
+        a += 1;
     }
 }
 
-pub fn show(body: &[u8]) {
+pub fn show(body: &[u8])
+    requires { ⌜ 80 ≤ length (now body) ⌝ }
+{
+    let c = load(body);
     say(b" chip ");
-    eight(body, 68);
-    state(byte_at(body, 76));
-    say_byte(b", Chip_ID ", byte_at(body, 77));
-    if byte_at(body, 79) == 1 {
-        say_byte(b", fixed ID ", byte_at(body, 64));
+    print_uid(uid_of(body));
+    state(c.state);
+    say_byte(b", Chip_ID ", c.id);
+    if c.fixed == 1 {
+        say_byte(b", fixed ID ", c.own);
     }
-    four(b", counter 5 at ", body, 20);
-    four(b", counter 6 at ", body, 24);
-    if byte_at(body, 78) == 1 {
+    word(b", counter 5 at ", block_of(body, 5));
+    word(b", counter 6 at ", block_of(body, 6));
+    if c.reload == 1 {
         say(b", reload on");
     }
-    locked_blocks(byte_at(body, 66), byte_at(body, 67));
+    locked_blocks(block_of(body, 255));
 }

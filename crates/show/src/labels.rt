@@ -1,11 +1,16 @@
 // A label's line: UID, state, AFI, DSFID, blocks, IC reference, what is locked, a running slot and its mask.
 use crate::words::count;
-use crate::words::eight;
+use crate::words::locked;
 use crate::words::number;
-use frame::number::byte_at;
+use frame::put::put_number;
+use label::body::load;
+use label::locks::lock_on;
+use label::step::Label;
+use text::hex::print_uid;
 use text::hex::say_byte;
 use text::print::say;
 ghost use Prim.Native.Nat.{_≤_};
+ghost use lib.ListN.{length};
 
 fn state(s: u8) {
     match s {
@@ -16,68 +21,63 @@ fn state(s: u8) {
     }
 }
 
-// How many blocks there are.
-fn blocks_of(body: &[u8]) -> usize
-    ensures { λ r. ⌜ r ≤ 256 ⌝ }
-{
-    byte_at(body, 11) as usize + 1
-}
-
-// The locked blocks.
-fn locked_blocks(body: &[u8]) {
-    let blocks = blocks_of(body);
+// The locked ones of the blocks up to the last.
+fn locked_blocks(body: &[u8], last: u8) {
     let mut named = false;
-    let mut i = 0;
-    while i < blocks {
-        if byte_at(body, 32 + i) == 1 {
-            if !named {
-                say(b", locked blocks");
-            }
+    let mut n: u8 = 0;
+    while n < last {
+        if lock_on(body, n) == 1 {
+            locked(named, n);
             named = true;
-            say(b" ");
-            number(i);
         }
-        i += 1;
+        n += 1;
+    }
+    if lock_on(body, last) == 1 {
+        locked(named, last);
     }
 }
 
 // What is locked.
-fn locks(body: &[u8]) {
-    let bits = byte_at(body, 10);
+fn locks(body: &[u8], bits: u8, last: u8) {
     if bits % 2 == 1 {
         say(b", locked AFI");
     }
     if bits / 2 % 2 == 1 {
         say(b", locked DSFID");
     }
-    locked_blocks(body);
+    locked_blocks(body, last);
 }
 
 // A running slot, and the mask below it.
-fn slot(body: &[u8]) {
-    let s = byte_at(body, 15);
-    if s == 255 {
+fn slot(l: Label) {
+    if l.slot == 255 {
         return;
     }
     say(b", slot ");
-    number(s as usize);
+    number(l.slot as usize);
     say(b", mask ");
-    eight(body, 17);
+    let mut mask = [0u8; 8];
+    put_number(&mut mask, 0, l.mask, 8);
+    print_uid(mask);
     say(b" of ");
-    count(byte_at(body, 16) as usize, b" bit");
+    count(l.bits as usize, b" bit");
 }
 
-pub fn show(body: &[u8]) {
+pub fn show(body: &[u8])
+    requires { ⌜ 32 ≤ length (now body) ⌝ }
+{
+    let l = load(body);
+    let uid = l.uid;
     say(b" label ");
-    eight(body, 0);
-    state(byte_at(body, 14));
-    say_byte(b", AFI ", byte_at(body, 9));
-    say_byte(b", DSFID ", byte_at(body, 8));
+    print_uid(uid);
+    state(l.state);
+    say_byte(b", AFI ", l.afi);
+    say_byte(b", DSFID ", l.dsfid);
     say(b", ");
-    count(blocks_of(body), b" block");
+    count(l.blocks as usize + 1, b" block");
     say(b" of ");
-    count(byte_at(body, 12) as usize + 1, b" byte");
-    say_byte(b", IC ", byte_at(body, 13));
-    locks(body);
-    slot(body);
+    count(l.size as usize + 1, b" byte");
+    say_byte(b", IC ", l.ic);
+    locks(body, l.locks, l.blocks);
+    slot(l);
 }

@@ -4,40 +4,43 @@ mod labels;
 mod words;
 
 use crate::words::number;
-use frame::number::byte_at;
 use libc::STDERR_FILENO;
-use rack::file::entry_of;
+use rack::file::body_of;
+use rack::file::count;
+use rack::file::kind_of;
+use rack::tag::Kind;
 use text::file::load;
 use text::print::say;
+ghost use mathlib.Core.Path.{_≡_};
+ghost use mathlib.Core.Bool.{true};
+ghost use lib.ListN.{length};
+ghost use Rattle.rack.specs.File.{lengthFits};
+ghost use Rattle.rack.specs.Facts.{RackFine};
 
 // Tag i.
-fn show_tag(i: usize, kind: u8, body: &[u8]) {
+fn show_tag(i: usize, kind: Kind, body: &[u8])
+    requires { ⌜ lengthFits kind (length (now body)) ≡ true ⌝ }
+{
     number(i);
-    if kind == 2 {
-        chips::show(body);
-    } else {
-        labels::show(body);
+    match kind {
+        Kind::Label => labels::show(body),
+        Kind::Chip => chips::show(body),
+        Kind::Other => {}
     }
     say(b"\n");
 }
 
-// Every tag, in the order of the entries.
-fn show_tags(tags: &[u8]) {
-    let n = byte_at(tags, 1) as usize;
-    let mut at = entry_of(n);
+// How many tags there are, and every tag in the order of the entries.
+fn show_tags(tags: &[u8])
+    requires { ⌜ RackFine (now tags) ⌝ }
+{
+    let n = count(tags);
+    say(b"tags ");
+    number(n);
+    say(b"\n");
     let mut i = 0;
     while i < n {
-        let e = entry_of(i);
-        let len = byte_at(tags, e + 2) as usize + 256 * byte_at(tags, e + 3) as usize;
-        if tags.len() < at {
-            return;
-        }
-        if tags.len() - at < len {
-            return;
-        }
-        let end = at + len;
-        show_tag(i, byte_at(tags, e), &tags[at..end]);
-        at = end;
+        show_tag(i, kind_of(tags, i), body_of(tags, i));
         i += 1;
     }
 }
@@ -48,9 +51,6 @@ fn show(tags: &[u8]) {
         say(b"refused 1\n");
         return;
     }
-    say(b"tags ");
-    number(byte_at(tags, 1) as usize);
-    say(b"\n");
     show_tags(tags);
 }
 

@@ -1,7 +1,5 @@
 // Small pieces of a tag's line. A byte is written in hex, a number in decimal.
-use frame::number::byte_at;
 use text::hex::print_byte;
-use text::hex::print_uid;
 use text::hex::say_byte;
 use text::print::say;
 
@@ -18,31 +16,22 @@ pub fn count(x: usize, name: &[u8]) {
     }
 }
 
-// The eight bytes at a place, high byte first.
-pub fn eight(body: &[u8], at: usize) {
-    if body.len() < 8 {
-        return;
+// A locked block; before the first their name.
+pub fn locked(named: bool, n: u8) {
+    if !named {
+        say(b", locked blocks");
     }
-    if body.len() - 8 < at {
-        return;
-    }
-    print_uid(frame::uid::uid_at(body, at));
+    say(b" ");
+    number(n as usize);
 }
 
-// A name and the number that the four bytes at a place are, and its bytes, high byte first.
-pub fn four(name: &[u8], body: &[u8], at: usize) {
-    if 65536 < at {
-        return;
-    }
-    let a = byte_at(body, at);
-    let b = byte_at(body, at + 1);
-    let c = byte_at(body, at + 2);
-    let d = byte_at(body, at + 3);
+// A name and a number of four bytes, and its bytes, high byte first.
+pub fn word(name: &[u8], w: u32) {
     say(name);
-    number(a as usize + 256 * (b as usize + 256 * (c as usize + 256 * d as usize)));
-    say_byte(b" (", d);
-    print_byte(c);
-    print_byte(b);
-    print_byte(a);
+    number(w as usize);
+    say_byte(b" (", (w / 16777216) as u8);
+    print_byte((w / 65536 % 256) as u8);
+    print_byte((w / 256 % 256) as u8);
+    print_byte((w % 256) as u8);
     say(b")");
 }

@@ -1,92 +1,39 @@
--- The place goes up to the number of tags; each body lies within the file. Assumes nothing.
+-- Every tag below the count is there. Assumes nothing.
 use Prim.Native.Nat.{_-_}
+use native.Mathlib.Omega.{arith}
 use borrow.Author.Needs.{needs}
+use denote.Ref.{now}
+use Rattle.show.proofs.Tags.{entry-there, body-there, body-fits}
 use Rattle.show.proofs.show_tags.Statement.{statement}
 use Rattle.show.proofs.show_tags.Tie as tie
 
 abbrev Inv-loop : tie.InvT-loop
-Inv-loop tags n at₀ i₀ at i = Unit
+Inv-loop tags n i₀ i = Unit
 
 abbrev μ-loop : tie.MeasureT-loop
-μ-loop tags n at₀ i₀ at i = n - i
+μ-loop tags n i₀ i = n - i
 
-byte-at-requires : tie.Need-byte-at-requires Inv-loop μ-loop
-byte-at-requires c κs = search needs
+abbrev counted : tie.In-loop Inv-loop μ-loop → tie.After-count Inv-loop μ-loop
+counted c = c .before .before .before .before .before .before .before
 
-cast-n : tie.Need-cast-n Inv-loop μ-loop
-cast-n c = search needs
+abbrev start : tie.In-loop Inv-loop μ-loop → tie.Start Inv-loop μ-loop
+start c = counted c .before .before
 
-entry-of-requires : tie.Need-entry-of-requires Inv-loop μ-loop
-entry-of-requires c κs = search needs
+kind-of-requires : tie.Need-kind-of-requires Inv-loop μ-loop
+kind-of-requires c κs = entry-there (now (start c .args .tags)) (start c .pre) (counted c .count .ensures) (c .loop-test .taken)
 
-loop-holds : tie.Need-loop-holds Inv-loop μ-loop
-loop-holds c = search needs
-
-entry-of-requires-2 : tie.Need-entry-of-requires-2 Inv-loop μ-loop
-entry-of-requires-2 c κs = search needs
-
-add-byte-at : tie.Need-add-byte-at Inv-loop μ-loop
-add-byte-at c = search needs
-
-byte-at-requires-2 : tie.Need-byte-at-requires-2 Inv-loop μ-loop
-byte-at-requires-2 c κs = search needs
-
-cast-len : tie.Need-cast-len Inv-loop μ-loop
-cast-len c = search needs
-
-add-byte-at-2 : tie.Need-add-byte-at-2 Inv-loop μ-loop
-add-byte-at-2 c = search needs
-
-byte-at-requires-3 : tie.Need-byte-at-requires-3 Inv-loop μ-loop
-byte-at-requires-3 c κs = search needs
-
-cast-len-2 : tie.Need-cast-len-2 Inv-loop μ-loop
-cast-len-2 c = search needs
-
-mul-len : tie.Need-mul-len Inv-loop μ-loop
-mul-len c = search needs
-
-add-len : tie.Need-add-len Inv-loop μ-loop
-add-len c = search needs
-
-returns : tie.Need-returns Inv-loop μ-loop
-returns c = search needs
-
-sub-if2 : tie.Need-sub-if2 Inv-loop μ-loop
-sub-if2 c = search needs
-
-returns-2 : tie.Need-returns-2 Inv-loop μ-loop
-returns-2 c = search needs
-
-add-end : tie.Need-add-end Inv-loop μ-loop
-add-end c = search needs
-
-byte-at-requires-4 : tie.Need-byte-at-requires-4 Inv-loop μ-loop
-byte-at-requires-4 c κs = search needs
-
-sub-show-tag : tie.Need-sub-show-tag Inv-loop μ-loop
-sub-show-tag c = search needs
-
-part-show-tag-start : tie.Need-part-show-tag-start Inv-loop μ-loop
-part-show-tag-start c = search needs
-
-part-show-tag-end : tie.Need-part-show-tag-end Inv-loop μ-loop
-part-show-tag-end c = search needs
+body-of-requires : tie.Need-body-of-requires Inv-loop μ-loop
+body-of-requires c κs =
+    let l = c .before in
+    let r = now (start l .args .tags) in
+    let n = counted l .count .ensures in
+    (entry-there r (start l .pre) n (l .loop-test .taken), body-there r (start l .pre) n (l .loop-test .taken))
 
 show-tag-requires : tie.Need-show-tag-requires Inv-loop μ-loop
-show-tag-requires c κs = search needs
-
-add-i : tie.Need-add-i Inv-loop μ-loop
-add-i c = search needs
-
-loop-less : tie.Need-loop-less Inv-loop μ-loop
-loop-less c = search needs
-
-loop-again : tie.Need-loop-again Inv-loop μ-loop
-loop-again c = search needs
-
-returns-3 : tie.Need-returns-3 Inv-loop μ-loop
-returns-3 c = search needs
+show-tag-requires c κs =
+    let l = c .before .before in
+    rw (c .before .kind-of .ensures)
+    (body-fits (now (start l .args .tags)) (start l .pre) (counted l .count .ensures) (l .loop-test .taken) _ (c .body-of .ensures))
 
 pub show-tags-spec : {M : Type 1} → statement M
 show-tags-spec =
@@ -94,29 +41,17 @@ show-tags-spec =
     (tie.spec
     Inv-loop
     μ-loop
-    byte-at-requires
-    cast-n
-    entry-of-requires
-    loop-holds
-    entry-of-requires-2
-    add-byte-at
-    byte-at-requires-2
-    cast-len
-    add-byte-at-2
-    byte-at-requires-3
-    cast-len-2
-    mul-len
-    add-len
-    returns
-    sub-if2
-    returns-2
-    add-end
-    byte-at-requires-4
-    sub-show-tag
-    part-show-tag-start
-    part-show-tag-end
+    (λ c κs. c .before .pre .head .two-bytes)
+    (λ c. search needs)
+    (λ c κs. search needs)
+    (λ c κs. search needs)
+    (λ c. search needs)
+    (λ c κs. search needs)
+    (λ c. tt)
+    kind-of-requires
+    body-of-requires
     show-tag-requires
-    add-i
-    loop-less
-    loop-again
-    returns-3)
+    (λ c. search needs)
+    (λ c. search needs)
+    (λ c. tt)
+    (λ c. search needs))

@@ -1,10 +1,9 @@
--- A write names its block, which stands within the body; no other order names one.
+-- A write names its block; no other order names one.
 -- Assumes nothing.
 use mathlib.Core.Path.{_∙_}
-use native.Mathlib.Omega.{arith}
 use denote.Ref.{now}
 use Rattle.chip.specs.Body.{named}
-use Rattle.chip.proofs.Shapes.{unnamed, place-fits}
+use Rattle.chip.proofs.Shapes.{unnamed}
 use borrow.Author.Needs.{needs}
 use Rattle.chip.proofs.body.named_block.Statement.{statement}
 use Rattle.chip.proofs.body.named_block.Tie as tie
@@ -17,5 +16,4 @@ named-block-spec =
     (λ c. search needs)
     (λ c. unnamed (c .before .before .args .order) (now (c .before .before .args .b)) (c .match .keys2))
     (λ c κs. search needs)
-    (λ c κs. omega (arith, c .place .ensures, place-fits (c .before .before .order .given .0 .0), c .before .before .before .before .before .pre))
-    (λ c. c .word-at .ensures ∙ rw (c .before .place .ensures, c .before .before .before .order .given .1)))
+    (λ c. c .block-of .ensures ∙ rw (c .before .before .order .given .1)))

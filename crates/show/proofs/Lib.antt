@@ -1,0 +1,2 @@
+-- What `show` needs of a well-formed rack.
+pub mod Tags
