@@ -20,8 +20,7 @@ use Rattle.label.specs.declared.step.Answer.the-variants.{Silent, Found}
 use Rattle.label.proofs.Fine.{rules-fine, fine-rules}
 use Rattle.label.proofs.Slots.{first, step, last, said-first, said-step, during-fine, during-bytes, during-uid, during-length}
 use Rattle.label.proofs.Slots.{clear-fine, clear-bytes, clear-uid, clear-length, clear-clear, takes-clear}
-use Rattle.rack.specs.declared.tag.Kind.{Kind}
-use Rattle.rack.specs.declared.tag.Kind.the-variants.{Label, Chip, Other}
+use Rattle.rack.specs.File.{Kind, Label, Chip, Other}
 use Rattle.rack.specs.File.{bodyRules}
 use Rattle.rack.specs.Event.{Event, carrying, nextBody, saidBy, speaks, frameOf, answerBody}
 use Rattle.inventory.proofs.Sent.{signal}

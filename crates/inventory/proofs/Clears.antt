@@ -11,7 +11,7 @@ use Rattle.frame.specs.Choose.{gather}
 use Rattle.frame.specs.Number.{part, splice}
 use Rattle.frame.proofs.Lists.{gather-none, gather-more}
 use Rattle.request.specs.declared.label.Family.{Family}
-use Rattle.rack.specs.declared.tag.Kind.{Kind}
+use Rattle.rack.specs.File.{Kind}
 use Rattle.rack.specs.File.{countOf, entryAt, kindAt, lengthAt, startOf, bodyAt, contents, rebuilt, lengthFits}
 use Rattle.inventory.specs.Walk.{uidAt, uidsTo, uids, clearBody, cleared}
 use Rattle.rack.proofs.Places.{gather-ext, part-at, splice-at, start-none, start-more, kind-same, length-same}

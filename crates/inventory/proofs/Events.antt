@@ -18,8 +18,7 @@ use Rattle.request.specs.declared.label.Family.the-variants.{Any, Only}
 use Rattle.request.specs.declared.label.Call.{Call}
 use Rattle.request.specs.declared.label.Call.the-variants.{Inventory, EndOfFrame}
 use Rattle.request.specs.Chip as chips
-use Rattle.rack.specs.declared.tag.Kind.{Kind}
-use Rattle.rack.specs.declared.tag.Kind.the-variants.{Label, Chip, Other}
+use Rattle.rack.specs.File.{Kind, Label, Chip, Other}
 use Rattle.rack.specs.File.{countOf, kindAt, lengthAt, startOf, bodyAt, rebuilt, lengthFits, bodyRules}
 use Rattle.rack.specs.Facts.{RackFine}
 use Rattle.rack.specs.Event.{Event, Outcome, aired, next, answer, nextRack, answers, played, refusalOf, eventOf}

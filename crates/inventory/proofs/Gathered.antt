@@ -12,8 +12,7 @@ use Rattle.frame.proofs.Puts.{sets-append}
 use Rattle.frame.proofs.Stores.{part-on}
 use Rattle.label.specs.Slots.{uidOf, takesPart}
 use Rattle.request.specs.declared.label.Family.{Family}
-use Rattle.rack.specs.declared.tag.Kind.{Kind}
-use Rattle.rack.specs.declared.tag.Kind.the-variants.{Label}
+use Rattle.rack.specs.File.{Kind, Label}
 use Rattle.rack.specs.File.{countOf, entryAt, kindAt, lengthAt, startOf, bodyAt, lengthFits}
 use Rattle.rack.specs.Facts.{RackFine}
 use Rattle.inventory.specs.Walk.{uidAt, uidsTo, uids}

@@ -15,8 +15,7 @@ use Rattle.frame.specs.Choose.{gather}
 use Rattle.frame.proofs.Bools.{or-off, if-both}
 use Rattle.label.specs.Slots.{uidOf, takesPart}
 use Rattle.request.specs.declared.label.Family.the-variants.{Any}
-use Rattle.rack.specs.declared.tag.Kind.{Kind}
-use Rattle.rack.specs.declared.tag.Kind.the-variants.{Label, Chip, Other}
+use Rattle.rack.specs.File.{Kind, Label, Chip, Other}
 use Rattle.rack.specs.File.{countOf, kindAt, bodyAt}
 use Rattle.inventory.specs.Endings.{one, count}
 use Rattle.inventory.specs.Walk.{uidAt, uidsTo, uids, anyOf, among, twins}

@@ -23,8 +23,7 @@ use Rattle.label.specs.Slots.{uidOf, takesPart}
 use Rattle.request.specs.declared.label.Family.{Family}
 use Rattle.request.specs.declared.label.Family.the-variants.{Any}
 use Rattle.label.specs.declared.step.Answer.the-variants.{Found}
-use Rattle.rack.specs.declared.tag.Kind.{Kind}
-use Rattle.rack.specs.declared.tag.Kind.the-variants.{Label, Chip, Other}
+use Rattle.rack.specs.File.{Kind, Label, Chip, Other}
 use Rattle.rack.specs.File.{countOf, kindAt, bodyAt}
 use Rattle.rack.specs.Event.{opened}
 use Rattle.inventory.specs.Endings.{ending, count}

@@ -12,8 +12,7 @@ use Rattle.frame.specs.Ending.{longer, bytesFor}
 use Rattle.label.specs.Slots.{uidOf, takesPart, clear}
 use Rattle.request.specs.declared.label.Family.{Family}
 use Rattle.request.specs.declared.label.Family.the-variants.{Any, Only}
-use Rattle.rack.specs.declared.tag.Kind.{Kind}
-use Rattle.rack.specs.declared.tag.Kind.the-variants.{Label, Chip, Other}
+use Rattle.rack.specs.File.{Kind, Label, Chip, Other}
 use Rattle.rack.specs.File.{countOf, kindAt, bodyAt, rebuilt, verdictOf}
 use Rattle.rack.specs.Event.{Outcome, least, eventOf}
 use Rattle.inventory.specs.declared.walk.Walked.{Walked}

@@ -5,7 +5,7 @@ use rack::file::count;
 use rack::file::entry_of;
 use rack::file::kind_of;
 use rack::file::length_of;
-use rack::tag::Kind;
+use rack::tag::LABEL;
 use request::label::Family;
 ghost use mathlib.Core.Path.{_≡_};
 ghost use mathlib.Core.Bool.{true};
@@ -13,7 +13,7 @@ ghost use Prim.Native.Nat.{_+_, _≤_, _<_};
 ghost use lib.ListN.{length};
 ghost use lib.Seq.{sets};
 ghost use Rattle.request.specs.declared.label.Family.the-variants.{Any};
-ghost use Rattle.rack.specs.File.{lengthFits};
+ghost use Rattle.rack.specs.File.{Label, kindOf, lengthFits};
 ghost use Rattle.rack.specs.Facts.{RackFine};
 ghost use Rattle.inventory.specs.Walk.{uidAt, uids};
 ghost use Rattle.inventory.specs.Numbers.{First};
@@ -21,8 +21,8 @@ ghost use Rattle.inventory.specs.Numbers.{First};
 // A label's UID goes to place n, if the label takes part.
 fn take_label(body: &[u8], family: Family, us: &mut [u64], n: usize) -> usize
     requires { ⌜ (32 ≤ length (now body)) × (n < length (now us)) ⌝ }
-    ensures { λ r. ⌜ r ≡ n + length (uidAt family Kind.Label (now (body .entry))) ⌝ }
-    ensures { λ _. ⌜ now (us .exit) ≡ sets (now (us .entry)) n (uidAt family Kind.Label (now (body .entry))) ⌝ }
+    ensures { λ r. ⌜ r ≡ n + length (uidAt family Label (now (body .entry))) ⌝ }
+    ensures { λ _. ⌜ now (us .exit) ≡ sets (now (us .entry)) n (uidAt family Label (now (body .entry))) ⌝ }
 {
     if !takes_part(body, family) {
         return n;
@@ -32,16 +32,15 @@ fn take_label(body: &[u8], family: Family, us: &mut [u64], n: usize) -> usize
 }
 
 // A tag's UID goes to place n, if the tag is a label that takes part.
-fn take_uid(kind: Kind, body: &[u8], family: Family, us: &mut [u64], n: usize) -> usize
-    requires { ⌜ (lengthFits kind (length (now body)) ≡ true) × (n < length (now us)) ⌝ }
-    ensures { λ r. ⌜ r ≡ n + length (uidAt family kind (now (body .entry))) ⌝ }
-    ensures { λ _. ⌜ now (us .exit) ≡ sets (now (us .entry)) n (uidAt family kind (now (body .entry))) ⌝ }
+fn take_uid(kind: u8, body: &[u8], family: Family, us: &mut [u64], n: usize) -> usize
+    requires { ⌜ (lengthFits (kindOf kind) (length (now body)) ≡ true) × (n < length (now us)) ⌝ }
+    ensures { λ r. ⌜ r ≡ n + length (uidAt family (kindOf kind) (now (body .entry))) ⌝ }
+    ensures { λ _. ⌜ now (us .exit) ≡ sets (now (us .entry)) n (uidAt family (kindOf kind) (now (body .entry))) ⌝ }
 {
-    match kind {
-        Kind::Label => take_label(body, family, us, n),
-        Kind::Chip => n,
-        Kind::Other => n,
+    if kind == LABEL {
+        return take_label(body, family, us, n);
     }
+    n
 }
 
 // The UIDs in the order of the rack. Gives how many.

@@ -20,8 +20,7 @@ use Rattle.label.proofs.Fine.{long-enough}
 use Rattle.chip.specs.Body as chips
 use Rattle.chip.specs.Write.{locked}
 use Rattle.chip.proofs.Floor as chip
-use Rattle.rack.specs.declared.tag.Kind.{Kind}
-use Rattle.rack.specs.declared.tag.Kind.the-variants.{Label, Chip}
+use Rattle.rack.specs.File.{Kind, Label, Chip}
 use Rattle.rack.specs.File.{countOf, kindAt, lengthAt, startOf, bodyAt, contents, verdictOf}
 use Rattle.rack.specs.Facts.{RackFine, TagFine}
 use Rattle.rack.specs.Event.{Event, aired, nextBody, nextRack, played, refused, refusalOf, eventOf}

@@ -11,7 +11,7 @@ use Rattle.frame.specs.Judge.{fine, bad, firstOf}
 use Rattle.frame.specs.declared.verdict.Verdict.{Verdict}
 use Rattle.frame.proofs.Stores.{length-part}
 use Rattle.frame.proofs.Judge.{first-none, first-more, first-stops}
-use Rattle.rack.specs.declared.tag.Kind.{Kind}
+use Rattle.rack.specs.File.{Kind}
 use Rattle.rack.specs.File.{countOf, entryAt, kindAt, lengthAt, offsetAt, startOf, lengthFits}
 use Rattle.rack.specs.File.{entryVerdict, bodyRules, moved, bodyVerdict, endVerdict}
 use Rattle.rack.specs.Facts.{HeadFine, EntryFine, EntriesFine}

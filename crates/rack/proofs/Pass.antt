@@ -11,7 +11,7 @@ use lib.Seq.{take-at, drop-drop, drop-length}
 use Rattle.frame.specs.Choose.{gather}
 use Rattle.frame.specs.Number.{part, splice}
 use Rattle.frame.proofs.Lists.{gather-none, gather-more}
-use Rattle.rack.specs.declared.tag.Kind.{Kind}
+use Rattle.rack.specs.File.{Kind}
 use Rattle.rack.specs.declared.tag.Said.{Said}
 use Rattle.rack.specs.File.{countOf, entryAt, kindAt, lengthAt, startOf, bodyAt, contents, rebuilt}
 use Rattle.rack.specs.Facts.{RackFine, TagFine}

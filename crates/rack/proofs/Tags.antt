@@ -1,13 +1,14 @@
 -- One tag: each law of a label's body and of a chip's, as one law by the kind. A body of kind `Other` stays as it is and says nothing, and no
 -- length fits that kind. A sound signal is what a decoded event is. Assumes nothing.
 use mathlib.Core.Path.{_≡_, refl, ap}
-use mathlib.Core.Bool.{true, not, _&&_, _||_, false≢true}
+use mathlib.Core.Bool.{Bool, true, false, not, _&&_, _||_, false≢true}
 use mathlib.Core.List.{List}
 use Prim.Native.Nat.{ℕ, _≤_, _<_}
 use native.Mathlib.Omega.{arith}
-use borrow.Author.Tests.{eqb-true, leb-true}
+use borrow.Author.Tests.{eqb-true, leb-true, ne-eqb}
 use lib.Dec.{eqb, ltb, leb}
 use lib.ListN.{length, getD}
+use Rattle.frame.specs.Choose.{if_then_else_}
 use Rattle.frame.specs.Number.{Bytes}
 use Rattle.frame.specs.declared.verdict.Verdict.{Verdict}
 use Rattle.frame.proofs.Bools.{and-both, if-both}
@@ -27,9 +28,8 @@ use Rattle.chip.specs.Body.{chipRules, saidChip}
 use Rattle.chip.proofs.Keeps as chip-keeps
 use Rattle.request.proofs.Orders as chip-decoded
 use Rattle.chip.proofs.Answers as chip-answers
-use Rattle.rack.specs.declared.tag.Kind.{Kind}
-use Rattle.rack.specs.declared.tag.Kind.the-variants.{Label, Chip, Other}
-use Rattle.rack.specs.File.{lengthFits, bodyRules}
+use Rattle.rack.specs.File.{Kind, Label, Chip, Other}
+use Rattle.rack.specs.File.{kindOf, known, lengthFits, bodyRules}
 use Rattle.rack.specs.Facts.{TagFine, Sayable}
 use Rattle.rack.specs.Event.{Event, aired, nextBody, saidBy, frameOf}
 
@@ -48,6 +48,33 @@ signal-sound number f b =
       sent = label-decoded.data-bytes f b;
       asked = chip-decoded.heard-sound number f b;
     }
+
+-- ---- what a byte names
+
+pub kind-label : (n : ℕ) → n ≡ 1 → kindOf n ≡ Label
+unfolding kindOf
+kind-label n e = rw e
+
+pub kind-chip : (n : ℕ) → n ≡ 2 → kindOf n ≡ Chip
+unfolding kindOf
+kind-chip n e = rw e
+
+pub kind-other : (n : ℕ) → (n ≡ 1 → ⊥) → (n ≡ 2 → ⊥) → kindOf n ≡ Other
+unfolding kindOf
+kind-other n f g = rw (ne-eqb n 1 f, ne-eqb n 2 g)
+
+-- what names no label
+pub kind-none : (P : Kind → Type 0) (n : ℕ) → (n ≡ 1 → ⊥) → P Chip → P Other → P (kindOf n)
+unfolding kindOf
+kind-none P n f chip other = rw (ne-eqb n 1 f) (if-both P (eqb n 2) chip other)
+
+pub known-chip : (n : ℕ) → (n ≡ 1 → ⊥) → eqb n 2 ≡ known (kindOf n)
+unfolding kindOf
+known-chip n f = rw (ne-eqb n 1 f) (go (eqb n 2))
+  where
+    go : (t : Bool) → t ≡ known (if t then Chip else Other)
+    go true = refl
+    go false = refl
 
 -- ---- what a length that fits is
 

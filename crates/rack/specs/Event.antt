@@ -12,8 +12,7 @@ use Rattle.request.specs.Signal.{signalOf}
 use Rattle.request.specs.declared.signal.Signal.{Signal}
 use Rattle.chip.specs.Body.{nextChip, saidChip}
 use Rattle.chip.specs.Answer as chip
-use Rattle.rack.specs.declared.tag.Kind.{Kind}
-use Rattle.rack.specs.declared.tag.Kind.the-variants.{Label, Chip, Other}
+use Rattle.rack.specs.File.{Kind, Label, Chip, Other}
 use Rattle.rack.specs.declared.tag.Said.{Said}
 use Rattle.rack.specs.declared.tag.Said.the-variants as s
 use Rattle.rack.specs.declared.event.Report.{Report}

@@ -8,7 +8,7 @@ use Rattle.frame.specs.Judge.{fine}
 use Rattle.frame.specs.Number.{part}
 use Rattle.label.specs.Body.{Sized}
 use Rattle.label.specs.Answer.{Told}
-use Rattle.rack.specs.declared.tag.Kind.{Kind}
+use Rattle.rack.specs.File.{Kind}
 use Rattle.rack.specs.declared.tag.Said.{Said}
 use Rattle.rack.specs.declared.tag.Said.the-variants as s
 use Rattle.rack.specs.File.{countOf, entryAt, kindAt, lengthAt, offsetAt, startOf, bodyAt, headVerdict, entryVerdict, bodyVerdict, bodyRules, lengthFits}

@@ -10,8 +10,6 @@ use Rattle.frame.specs.Judge.{fine, bad, orElse, firstOf}
 use Rattle.frame.specs.declared.verdict.Verdict.{Verdict}
 use Rattle.label.specs.Body.{labelRules}
 use Rattle.chip.specs.Body.{chipRules}
-use Rattle.rack.specs.declared.tag.Kind.{Kind}
-use Rattle.rack.specs.declared.tag.Kind.the-variants.{Label, Chip, Other}
 
 -- ---- what stands where
 
@@ -22,6 +20,12 @@ countOf r = getD r 1 0
 -- then n entries of 8 bytes: kind (1 label, 2 chip), a zero, body length (2 bytes), body offset in the file (4 bytes)
 abbrev pub entryAt : ℕ → ℕ
 entryAt i = 2 + 8 * i
+
+pub data Kind : Type 0 where
+  Label : Kind
+  Chip : Kind
+  -- no tag has this kind
+  Other : Kind
 
 unfoldable pub kindOf : ℕ → Kind
 kindOf n = if eqb n 1 then Label else if eqb n 2 then Chip else Other

@@ -5,7 +5,6 @@ use crate::file::entry_of;
 use crate::file::judge;
 use crate::file::kind_of;
 use crate::file::length_of;
-use crate::tag::Kind;
 use crate::tag::Said;
 use crate::tag::speaking;
 use crate::tag::step_tag;
@@ -18,7 +17,7 @@ ghost use Prim.Native.Nat.{_+_, _≤_, _<_};
 ghost use lib.ListN.{length};
 ghost use lib.Seq.{sets};
 ghost use Rattle.frame.specs.Number.{part, splice};
-ghost use Rattle.rack.specs.File.{countOf};
+ghost use Rattle.rack.specs.File.{countOf, kindOf};
 ghost use Rattle.rack.specs.Facts.{RackFine, TagFine, Tellable, bodyOf};
 ghost use Rattle.rack.specs.Event.{carrying, nextBody, saidBy, frameOf, nextRack, refusalOf, eventOf};
 ghost use Rattle.rack.specs.Pass.{PassOf};
@@ -46,15 +45,15 @@ fn step_at(
     rack: &mut [u8],
     at: usize,
     len: usize,
-    kind: Kind,
+    kind: u8,
     signal: Signal,
     bytes: &[u8],
     draw: u8,
 ) -> Said
     requires { ⌜ at + len ≤ length (now rack) ⌝ }
-    requires { ⌜ TagFine kind (part at len (now rack)) ⌝ }
-    ensures { λ r. ⌜ r ≡ saidBy kind (carrying signal (now (bytes .entry))) draw (part at len (now (rack .entry))) ⌝ }
-    ensures { λ r. ⌜ now (rack .exit) ≡ splice at len (nextBody kind (carrying signal (now (bytes .entry))) draw (part at len (now (rack .entry)))) (now (rack .entry)) ⌝ }
+    requires { ⌜ TagFine (kindOf kind) (part at len (now rack)) ⌝ }
+    ensures { λ r. ⌜ r ≡ saidBy (kindOf kind) (carrying signal (now (bytes .entry))) draw (part at len (now (rack .entry))) ⌝ }
+    ensures { λ r. ⌜ now (rack .exit) ≡ splice at len (nextBody (kindOf kind) (carrying signal (now (bytes .entry))) draw (part at len (now (rack .entry)))) (now (rack .entry)) ⌝ }
 {
     let end = at + len;
     step_tag(kind, &mut rack[at..end], signal, bytes, draw)

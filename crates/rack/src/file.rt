@@ -1,9 +1,7 @@
 // The rules of the rack file, judged in file order.
-use crate::tag::Kind;
 use crate::tag::fits;
 use crate::tag::is_known;
 use crate::tag::judge_tag;
-use crate::tag::kind_from;
 use frame::number::number_at;
 use frame::verdict::Verdict;
 use frame::verdict::good;
@@ -12,7 +10,7 @@ ghost use mathlib.Core.Path.{_≡_};
 ghost use Prim.Native.Nat.{_+_, _≤_, _<_};
 ghost use lib.ListN.{length};
 ghost use Rattle.frame.specs.Judge.{firstOf};
-ghost use Rattle.rack.specs.File.{countOf, entryAt, kindAt, lengthAt, offsetAt, startOf, headVerdict, entryVerdict, bodyVerdict, endVerdict, verdictOf};
+ghost use Rattle.rack.specs.File.{countOf, entryAt, kindOf, kindAt, lengthAt, offsetAt, startOf, headVerdict, entryVerdict, bodyVerdict, endVerdict, verdictOf};
 ghost use Rattle.rack.specs.Facts.{HeadFine, EntryFine, EntriesFine, bodyOf};
 
 // The number of tags.
@@ -32,11 +30,11 @@ pub fn entry_of(i: usize) -> usize
 }
 
 // The kind of tag i, from its entry.
-pub fn kind_of(rack: &[u8], i: usize) -> Kind
+pub fn kind_of(rack: &[u8], i: usize) -> u8
     requires { ⌜ (i < 64) × (entryAt i + 8 ≤ length (now rack)) ⌝ }
-    ensures { λ r. ⌜ r ≡ kindAt (now (rack .entry)) i ⌝ }
+    ensures { λ r. ⌜ kindOf r ≡ kindAt (now (rack .entry)) i ⌝ }
 {
-    kind_from(rack[entry_of(i)])
+    rack[entry_of(i)]
 }
 
 // The length of body i, from its entry.

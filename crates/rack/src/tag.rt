@@ -7,17 +7,14 @@ ghost use mathlib.Core.Bool.{true};
 ghost use Prim.Native.Nat.{_≤_};
 ghost use lib.ListN.{length};
 ghost use lib.Seq.{sets};
-ghost use Rattle.rack.specs.File.{kindOf, known, lengthFits, bodyRules};
+ghost use Rattle.rack.specs.File.{Label, kindOf, known, lengthFits, bodyRules};
 ghost use Rattle.rack.specs.Facts.{TagFine, Sayable};
 ghost use Rattle.rack.specs.Event.{carrying, nextBody, saidBy, speaks, frameOf};
 
-// What a tag is.
-pub enum Kind {
-    Label,
-    Chip,
-    // No tag has this kind.
-    Other,
-}
+// The kinds that an entry can name. A question goes by them rung by rung; what names none of them gets nothing.
+pub const LABEL: u8 = 1;
+
+pub const CHIP: u8 = 2;
 
 // What a tag says.
 pub enum Said {
@@ -26,30 +23,18 @@ pub enum Said {
     Chip(chip::step::Answer),
 }
 
-// The kind that an entry's first byte names.
-pub fn kind_from(n: u8) -> Kind
-    ensures { λ r. ⌜ r ≡ kindOf n ⌝ }
+pub fn is_known(kind: u8) -> bool
+    ensures { λ r. ⌜ r ≡ known (kindOf kind) ⌝ }
 {
-    match n {
-        1 => Kind::Label,
-        2 => Kind::Chip,
-        _ => Kind::Other,
+    if kind == LABEL {
+        return true;
     }
-}
-
-pub fn is_known(kind: Kind) -> bool
-    ensures { λ r. ⌜ r ≡ known kind ⌝ }
-{
-    match kind {
-        Kind::Label => true,
-        Kind::Chip => true,
-        Kind::Other => false,
-    }
+    kind == CHIP
 }
 
 // A label's body has 34 to 8,480 bytes.
 fn label_fits(len: usize) -> bool
-    ensures { λ r. ⌜ r ≡ lengthFits Kind.Label len ⌝ }
+    ensures { λ r. ⌜ r ≡ lengthFits Label len ⌝ }
 {
     if len < 34 {
         return false;
@@ -58,45 +43,47 @@ fn label_fits(len: usize) -> bool
 }
 
 // Whether a body of a kind can have this length.
-pub fn fits(kind: Kind, len: usize) -> bool
-    ensures { λ r. ⌜ r ≡ lengthFits kind len ⌝ }
+pub fn fits(kind: u8, len: usize) -> bool
+    ensures { λ r. ⌜ r ≡ lengthFits (kindOf kind) len ⌝ }
 {
-    match kind {
-        Kind::Label => label_fits(len),
-        Kind::Chip => len == 80,
-        Kind::Other => false,
+    if kind == LABEL {
+        return label_fits(len);
     }
+    if kind == CHIP {
+        return len == 80;
+    }
+    false
 }
 
 // The rules of a body.
-pub fn judge_tag(kind: Kind, body: &[u8]) -> Verdict
-    requires { ⌜ lengthFits kind (length (now body)) ≡ true ⌝ }
-    ensures { λ r. ⌜ (r ≡ bodyRules kind (now (body .entry))) × (r .place ≤ 8480) ⌝ }
+pub fn judge_tag(kind: u8, body: &[u8]) -> Verdict
+    requires { ⌜ lengthFits (kindOf kind) (length (now body)) ≡ true ⌝ }
+    ensures { λ r. ⌜ (r ≡ bodyRules (kindOf kind) (now (body .entry))) × (r .place ≤ 8480) ⌝ }
 {
-    match kind {
-        Kind::Label => label::judge::judge_label(body),
-        Kind::Chip => chip::body::judge_chip(body),
-        Kind::Other => good(),
+    if kind == LABEL {
+        return label::judge::judge_label(body);
     }
+    if kind == CHIP {
+        return chip::body::judge_chip(body);
+    }
+    good()
 }
 
 // A tag takes its step: only its body is lent, and so only its body changes.
-pub fn step_tag(kind: Kind, body: &mut [u8], signal: Signal, bytes: &[u8], draw: u8) -> Said
-    requires { ⌜ TagFine kind (now body) ⌝ }
-    ensures { λ r. ⌜ r ≡ saidBy kind (carrying signal (now (bytes .entry))) draw (now (body .entry)) ⌝ }
-    ensures { λ r. ⌜ now (body .exit) ≡ nextBody kind (carrying signal (now (bytes .entry))) draw (now (body .entry)) ⌝ }
+pub fn step_tag(kind: u8, body: &mut [u8], signal: Signal, bytes: &[u8], draw: u8) -> Said
+    requires { ⌜ TagFine (kindOf kind) (now body) ⌝ }
+    ensures { λ r. ⌜ r ≡ saidBy (kindOf kind) (carrying signal (now (bytes .entry))) draw (now (body .entry)) ⌝ }
+    ensures { λ r. ⌜ now (body .exit) ≡ nextBody (kindOf kind) (carrying signal (now (bytes .entry))) draw (now (body .entry)) ⌝ }
 {
-    match kind {
-        Kind::Label => {
-            let request = signal.label;
-            Said::Label(label::body::step(body, request, bytes))
-        }
-        Kind::Chip => {
-            let order = signal.chip;
-            Said::Chip(chip::body::step(body, order, draw))
-        }
-        Kind::Other => Said::Nothing,
+    if kind == LABEL {
+        let request = signal.label;
+        return Said::Label(label::body::step(body, request, bytes));
     }
+    if kind == CHIP {
+        let order = signal.chip;
+        return Said::Chip(chip::body::step(body, order, draw));
+    }
+    Said::Nothing
 }
 
 // Whether something is said.

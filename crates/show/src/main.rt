@@ -8,24 +8,26 @@ use libc::STDERR_FILENO;
 use rack::file::body_of;
 use rack::file::count;
 use rack::file::kind_of;
-use rack::tag::Kind;
+use rack::tag::CHIP;
+use rack::tag::LABEL;
 use text::file::load;
 use text::print::say;
 ghost use mathlib.Core.Path.{_≡_};
 ghost use mathlib.Core.Bool.{true};
 ghost use lib.ListN.{length};
-ghost use Rattle.rack.specs.File.{lengthFits};
+ghost use Rattle.rack.specs.File.{kindOf, lengthFits};
 ghost use Rattle.rack.specs.Facts.{RackFine};
 
 // Tag i.
-fn show_tag(i: usize, kind: Kind, body: &[u8])
-    requires { ⌜ lengthFits kind (length (now body)) ≡ true ⌝ }
+fn show_tag(i: usize, kind: u8, body: &[u8])
+    requires { ⌜ lengthFits (kindOf kind) (length (now body)) ≡ true ⌝ }
 {
     number(i);
-    match kind {
-        Kind::Label => labels::show(body),
-        Kind::Chip => chips::show(body),
-        Kind::Other => {}
+    if kind == LABEL {
+        labels::show(body);
+    }
+    if kind == CHIP {
+        chips::show(body);
     }
     say(b"\n");
 }

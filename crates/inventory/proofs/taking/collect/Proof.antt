@@ -2,7 +2,7 @@
 use Prim.Native.Nat.{_+_, _-_, _≤_, _<_}
 use native.Mathlib.Omega.{arith}
 use lib.ListN.{length}
-use Rattle.rack.specs.File.{countOf, entryAt}
+use Rattle.rack.specs.File.{kindOf, countOf, entryAt}
 use Rattle.inventory.proofs.Gathered.{Met, met-room, met-inside, met-fits, met-small}
 use Rattle.inventory.proofs.Gathered.{Gathering, gathering-none, gathering-few, gathering-more, gathering-done}
 use Rattle.inventory.proofs.taking.collect.Statement.{statement}
@@ -28,7 +28,7 @@ abbrev turn : tie.After-length-of Inv-loop μ-loop → tie.In-loop Inv-loop μ-l
 turn c = c .before .before
 
 met : (c : tie.After-length-of Inv-loop μ-loop)
-    → Met (start (turn c) .args .rack .now) (turn c .before .loop .at) (turn c .before .loop .i) (c .length-of .result) (c .before .kind-of .result)
+    → Met (start (turn c) .args .rack .now) (turn c .before .loop .at) (turn c .before .loop .i) (c .length-of .result) (kindOf (c .before .kind-of .result))
 met c =
     record {
       fine = start (turn c) .pre .0;

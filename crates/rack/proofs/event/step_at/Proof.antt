@@ -5,6 +5,7 @@ use native.Mathlib.Nat.{add-sub-cancel-left}
 use denote.Ref.{now}
 use borrow.Author.Needs.{needs}
 use Rattle.rack.proofs.Places.{span-part}
+use Rattle.rack.specs.File.{kindOf}
 use Rattle.rack.specs.Facts.{TagFine}
 use Rattle.rack.proofs.event.step_at.Statement.{statement}
 use Rattle.rack.proofs.event.step_at.Tie as tie
@@ -12,7 +13,7 @@ use Rattle.rack.proofs.event.step_at.Tie as tie
 step-tag-requires : tie.Need-step-tag-requires
 step-tag-requires c κs =
     let s = c .before .before .before in
-    subst (TagFine (s .args .kind)) (sym (span-part (s .args .at) (s .args .len) (now (s .args .rack)))) (s .pre .1)
+    subst (TagFine (kindOf (s .args .kind))) (sym (span-part (s .args .at) (s .args .len) (now (s .args .rack)))) (s .pre .1)
 
 returns : tie.Need-returns
 returns c =

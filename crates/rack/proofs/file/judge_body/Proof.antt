@@ -3,6 +3,7 @@
 use mathlib.Core.Path.{_∙_}
 use denote.Ref.{now}
 use borrow.Author.Needs.{needs}
+use Rattle.rack.specs.File.{kindOf}
 use Rattle.rack.proofs.Judging.{BodyRead, judged-short, judged-fits, judged-fine, judged-bad}
 use Rattle.rack.proofs.file.judge_body.Statement.{statement}
 use Rattle.rack.proofs.file.judge_body.Tie as tie
@@ -11,7 +12,7 @@ abbrev start : tie.After-length-of → tie.Start
 start c = c .before .before .before
 
 read : (c : tie.After-length-of)
-    → BodyRead (now (start c .args .rack)) (start c .args .i) (start c .args .at) (c .length-of .result) (c .before .kind-of .result)
+    → BodyRead (now (start c .args .rack)) (start c .args .i) (start c .args .at) (c .length-of .result) (kindOf (c .before .kind-of .result))
 read c = record { is = c .before .kind-of .ensures; start = start c .pre .1 .1; size = c .length-of .ensures .0 }
 
 returns-2 : tie.Need-returns-2

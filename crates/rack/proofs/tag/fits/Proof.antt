@@ -1,7 +1,8 @@
--- By the kind.
+-- By the rungs of the kinds.
 -- Assumes nothing.
 use borrow.Author.Needs.{needs}
 use Rattle.rack.specs.File.{lengthFits}
+use Rattle.rack.proofs.Tags.{kind-label, kind-chip, kind-other}
 use Rattle.rack.proofs.tag.fits.Statement.{statement}
 use Rattle.rack.proofs.tag.fits.Tie as tie
 
@@ -10,10 +11,7 @@ unfolding lengthFits
 fits-spec =
     tie.close
     (tie.spec
-    (λ c. search needs)
     (λ c κs. search needs)
-    (λ c. search needs)
-    (λ c. search needs)
-    (λ c. rw (c .before .enum-told .given .1) (c .label-fits .ensures))
-    (λ c. rw (c .enum-told2 .given .1))
-    (λ c. rw (c .enum-told3 .given .1)))
+    (λ c. rw (kind-label _ (c .before .if1 .taken)) (c .label-fits .ensures))
+    (λ c. rw (kind-chip _ (c .if2 .taken)))
+    (λ c. rw (kind-other _ (c .before .if1 .left) (c .if2 .left))))
