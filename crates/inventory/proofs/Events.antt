@@ -24,7 +24,7 @@ use Rattle.rack.specs.Facts.{RackFine}
 use Rattle.rack.specs.Event.{Event, Outcome, aired, next, answer, nextRack, answers, played, refusalOf, eventOf}
 use Rattle.inventory.specs.Walk.{request, blank, sent}
 use Rattle.inventory.proofs.Sent.{event, draws}
-use Rattle.request.proofs.Back.{sixteen-back, sixteen-afi-back}
+use Rattle.request.proofs.LabelFramed.{sixteen-back, sixteen-afi-back}
 use Rattle.rack.proofs.Places.{gather-ext}
 use Rattle.rack.proofs.Rebuilt.{rebuilt-ext}
 use Rattle.rack.proofs.Rebuilt as rebuilt

@@ -17,9 +17,9 @@ use Rattle.frame.specs.Ending.{endsIn, endsInSlot}
 use Rattle.chip.specs.Write.{written, countDown, lockDown, reloads, locked}
 use Rattle.frame.proofs.Bools.{and-both}
 use Rattle.label.specs.Locks.{lockRoom, locksVerdict}
-use Rattle.label.specs.Body.{headRules, slotRules, over, maskVerdict, labelRules}
+use Rattle.label.specs.Body.{loadOf, headRules, slotRules, over, maskVerdict, labelRules}
 use Rattle.label.specs.Slots.{takesPart}
-use Rattle.label.specs.Step.{passes}
+use Rattle.label.specs.Step.{passes, ready, heeds}
 use Rattle.request.specs.declared.label.Family.{Family}
 use Rattle.request.specs.declared.label.Family.the-variants.{Any}
 use Rattle.rack.specs.File.{startOf, kindOf, headVerdict, lengthFits, entryVerdict, bodyRules, moved, bodyVerdict, endVerdict, verdictOf}
@@ -87,12 +87,12 @@ abbrev rack-k : List ℕ
 rack-k = (1 ∷ 2 ∷ []) ++ entry 18 ++ entry 52 ++ label 0xE0 ++ label 0xD0
 
 pub uids-k : uids Any rack-k ≡ 0xE000000000000011 ∷ 0xD000000000000011 ∷ []
-unfolding uidsTo uidAt takesPart passes kindOf gather startOf
+unfolding uidsTo uidAt takesPart heeds ready loadOf passes kindOf gather startOf
 uids-k = refl
 
 pub accepts-k : refusalOf rack-k 16 ≡ 0
 unfolding refusalOf verdictOf headVerdict entryVerdict kindOf lengthFits bodyVerdict bodyRules moved endVerdict labelRules headRules lockRoom
-    locksVerdict slotRules maskVerdict over byteVerdict firstOf twins anyOf uidsTo uidAt takesPart passes gather startOf
+    locksVerdict slotRules maskVerdict over byteVerdict firstOf twins anyOf uidsTo uidAt takesPart heeds ready loadOf passes gather startOf
 accepts-k = refl
 
 abbrev rack-l : List ℕ

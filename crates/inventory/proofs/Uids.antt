@@ -18,7 +18,8 @@ use Rattle.frame.proofs.Numbers.{bytes-num, bytes-take, num-lt}
 use Rattle.frame.proofs.Ending.{ends-longer}
 use Rattle.frame.proofs.CheckSumFrames.{length-framed}
 use Rattle.label.specs.Answer.{answerFrame}
-use Rattle.label.specs.Step.{passes}
+use Rattle.label.specs.Step.{passes, ready, heeds}
+use Rattle.label.specs.Body.{loadOf}
 use Rattle.label.specs.Slots.{uidOf, takesPart}
 use Rattle.request.specs.declared.label.Family.{Family}
 use Rattle.request.specs.declared.label.Family.the-variants.{Any}
@@ -116,8 +117,8 @@ uids-below r fine family =
 
 -- a family's are some of all
 some-count : (family : Family) (kind : Kind) (v : ℕ) (b : List ℕ) → count v (uidAt family kind b) ≤ count v (uidAt Any kind b)
-unfolding uidAt takesPart passes
-some-count family Label v b = go (eqb (getD b 14 0) 1 || eqb (getD b 14 0) 3) (passes family (getD b 9 0))
+unfolding uidAt takesPart heeds passes
+some-count family Label v b = go (ready (loadOf b)) (passes family (loadOf b .afi))
   where
     go : (q t : Bool) → count v (if q && t then uidOf b ∷ [] else []) ≤ count v (if q && true then uidOf b ∷ [] else [])
     go true true = omega arith

@@ -22,8 +22,8 @@ use Rattle.inventory.specs.Endings.{count}
 
 -- its frame: flags (bit 1, Inventory, AFI), command 01, AFI, mask length, mask in as few bytes as hold it
 unfoldable pub request : Family → ℕ → ℕ → List ℕ
-request Any m e = framed (6 ∷ 1 ∷ m ∷ bytesOf (bytesFor m) e)
-request (Only afi) m e = framed (22 ∷ 1 ∷ afi ∷ m ∷ bytesOf (bytesFor m) e)
+request Any bits mask = framed (6 ∷ 1 ∷ bits ∷ bytesOf (bytesFor bits) mask)
+request (Only afi) bits mask = framed (22 ∷ 1 ∷ afi ∷ bits ∷ bytesOf (bytesFor bits) mask)
 
 -- the answer buffer of the walk's own events
 abbrev pub blank : List ℕ
@@ -31,12 +31,12 @@ blank = replicate least 0
 
 -- an event sent to a rack, with a draw for each tag and an answer buffer; labels use no draw
 unfoldable pub sent : List ℕ → ℕ → List ℕ → Outcome
-sent r e f = eventOf r e f (replicate (countOf r) 0) blank
+sent r number f = eventOf r number f (replicate (countOf r) 0) blank
 
 -- what came back in slot s: the Inventory asks slot 0, each end of frame the next
 unfoldable pub slotOutcome : List ℕ → Family → ℕ → ℕ → ℕ → Outcome
-slotOutcome r family m e zero = sent r 3 (request family m e)
-slotOutcome r family m e (suc s) = sent (slotOutcome r family m e s .rack) 4 []
+slotOutcome r family bits mask zero = sent r 3 (request family bits mask)
+slotOutcome r family bits mask (suc s) = sent (slotOutcome r family bits mask s .rack) 4 []
 
 -- how many answered in it, and the UID of one that was alone: bytes 2 to 9 of its answer
 abbrev pub hits : Outcome → ℕ
@@ -52,11 +52,11 @@ pub record Hearing : Type 0 where
 
 -- labels heard alone are listed in slot order
 unfoldable pub round : List ℕ → Family → ℕ → ℕ → Hearing
-round r family m e =
+round r family bits mask =
     record {
-      rack = slotOutcome r family m e 16 .rack;
-      found = gather 16 (λ s. alone (slotOutcome r family m e s));
-      hits = gather 16 (λ s. hits (slotOutcome r family m e s) ∷ []);
+      rack = slotOutcome r family bits mask 16 .rack;
+      found = gather 16 (λ s. alone (slotOutcome r family bits mask s));
+      hits = gather 16 (λ s. hits (slotOutcome r family bits mask s) ∷ []);
     }
 
 -- ---- then, for each slot with a collision, in slot order, a round with its mask four bits longer, carried through before the next slot
@@ -72,9 +72,9 @@ join a b = record { rack = b .rack; found = a .found ++ b .found; rounds = a .ro
 unfoldable pub start : Hearing → Trip
 start h = record { rack = h .rack; found = h .found; rounds = 1 }
 
-module _ (sub : List ℕ → ℕ → Trip) (heard : List ℕ) (m e : ℕ) where
+module _ (sub : List ℕ → ℕ → Trip) (heard : List ℕ) (bits mask : ℕ) where
   unfoldable pub turn : Bool → ℕ → Trip → Trip
-  turn true s t = join t (sub (t .rack) (longer e m s))
+  turn true s t = join t (sub (t .rack) (longer mask bits s))
   turn false s t = t
 
   -- the collided slots below s carried through
@@ -82,15 +82,15 @@ module _ (sub : List ℕ → ℕ → Trip) (heard : List ℕ) (m e : ℕ) where
   upto zero rack = record { rack = rack; found = []; rounds = 0 }
   upto (suc s) rack = turn (ltb 1 (getD heard s 0)) s (upto s rack)
 
--- rounds that a mask of m bits may yet go down: past 60 bits there is none
+-- rounds that a mask of so many bits may yet go down: past 60 bits there is none
 unfoldable pub depth : ℕ → ℕ
-depth m = (64 - m) / 4
+depth bits = (64 - bits) / 4
 
 unfoldable pub explore : ℕ → List ℕ → Family → ℕ → ℕ → Trip
-explore zero rack family m e = record { rack = rack; found = []; rounds = 0 }
-explore (suc d) rack family m e =
-    let h = round rack family m e in
-    join (start h) (upto (λ r longerMask. explore d r family (m + 4) longerMask) (h .hits) m e 16 (h .rack))
+explore zero rack family bits mask = record { rack = rack; found = []; rounds = 0 }
+explore (suc d) rack family bits mask =
+    let h = round rack family bits mask in
+    join (start h) (upto (λ r longerMask. explore d r family (bits + 4) longerMask) (h .hits) bits mask 16 (h .rack))
 
 -- ---- the call
 

@@ -31,26 +31,26 @@ struct Went {
 
 // Carries a branch through: a round, and then each slot with a collision. 64 less the mask length falls; at 60 bits the round is the last.
 // After the round the UIDs stand slot by slot, so that a slot's are a part of them.
-fn carry(us: &mut [u64], list: &mut [u8], m: u8, cursor: usize) -> Went
-    requires room { ⌜ cursor + length (flat (listOf (depth m) m (now us))) ≤ length (now list) ⌝ }
-    requires few { ⌜ roundsOf (depth m) m (now us) < 2 ^ 64 ⌝ }
-    requires mask { ⌜ m ≤ 60 ⌝ }
-    ensures list { λ _. ⌜ now (list .exit) ≡ sets (now (list .entry)) cursor (flat (listOf (depth m) m (now (us .entry)))) ⌝ }
-    ensures cursor { λ r. ⌜ r .cursor ≡ cursor + length (flat (listOf (depth m) m (now (us .entry)))) ⌝ }
-    ensures rounds { λ r. ⌜ r .rounds ≡ roundsOf (depth m) m (now (us .entry)) ⌝ }
+fn carry(us: &mut [u64], list: &mut [u8], bits: u8, cursor: usize) -> Went
+    requires room { ⌜ cursor + length (flat (listOf (depth bits) bits (now us))) ≤ length (now list) ⌝ }
+    requires few { ⌜ roundsOf (depth bits) bits (now us) < 2 ^ 64 ⌝ }
+    requires mask { ⌜ bits ≤ 60 ⌝ }
+    ensures list { λ _. ⌜ now (list .exit) ≡ sets (now (list .entry)) cursor (flat (listOf (depth bits) bits (now (us .entry)))) ⌝ }
+    ensures cursor { λ r. ⌜ r .cursor ≡ cursor + length (flat (listOf (depth bits) bits (now (us .entry)))) ⌝ }
+    ensures rounds { λ r. ⌜ r .rounds ≡ roundsOf (depth bits) bits (now (us .entry)) ⌝ }
 {
-    let mut at = play_round(us, m, list, cursor);
+    let mut at = play_round(us, bits, list, cursor);
     let mut rounds: usize = 1;
-    if 56 < m {
+    if 56 < bits {
         return Went { cursor: at, rounds };
     }
     let n = us.len();
     let mut from: usize = 0;
     while from < n {
-        let h = leading(&us[from..n], m);
+        let h = leading(&us[from..n], bits);
         let to = from + h;
         if 1 < h {
-            let went = carry(&mut us[from..to], list, m + 4, at);
+            let went = carry(&mut us[from..to], list, bits + 4, at);
             at = went.cursor;
             rounds += went.rounds;
         }

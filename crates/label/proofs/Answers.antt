@@ -22,7 +22,8 @@ use Rattle.label.specs.declared.step.Stepped.{Stepped}
 use Rattle.label.specs.Step.{ended}
 use Rattle.label.specs.Locks.{lockOn}
 use Rattle.label.specs.Body.{loadOf, storeOf, worked, stepped, nextLabel, saidLabel, named, Sized, sizeOf, blockAt}
-use Rattle.label.specs.Answer.{answerFrame, blockBytes, Told}
+use Rattle.label.specs.Answer.{answerFrame, blockBytes}
+use Rattle.label.specs.Facts.{AnswerFits}
 use Rattle.label.proofs.Room.{sized-long, block-fits, block-after}
 use Rattle.label.proofs.Stored.{stored-length, stored-between, stored-lock, stored-uid, stored-numbers, stored-part, stored-place, stored-dsfid, stored-afi}
 use Rattle.label.proofs.Laying.{found-length, info-length}
@@ -87,8 +88,8 @@ same-frame r bytes b z = way-frame bytes b z (way r (length bytes) (named (r .ca
 
 -- ---- the block that is given is there
 
-calm-told : (x : Answer) (b : List ℕ) → Calm x (loadOf b) → Told x b
-unfolding Calm Told loadOf
+calm-told : (x : Answer) (b : List ℕ) → Calm x (loadOf b) → AnswerFits x b
+unfolding Calm AnswerFits loadOf
 calm-told a.Silent b h = tt
 calm-told (a.Error e) b h = tt
 calm-told a.Done b h = tt
@@ -96,8 +97,8 @@ calm-told a.Found b h = tt
 calm-told (a.Block n lock) b h = h
 calm-told a.Info b h = tt
 
-way-told : {call : Call} {count lock : ℕ} {s : Stepped} (b : List ℕ) → Way call count lock (loadOf b) s → Told (s .answer) b
-unfolding Told
+way-told : {call : Call} {count lock : ℕ} {s : Stepped} (b : List ℕ) → Way call count lock (loadOf b) s → AnswerFits (s .answer) b
+unfolding AnswerFits
 way-told b stays = tt
 way-told b offs = tt
 way-told b (wakes x) = tt
@@ -117,7 +118,7 @@ way-told b (dsfids v x y) = tt
 way-told b (afiLocks x) = tt
 way-told b (dsfidLocks x) = tt
 
-pub told-of : (r : Request) (count : ℕ) (b : List ℕ) → Told (saidLabel r count b) b
+pub told-of : (r : Request) (count : ℕ) (b : List ℕ) → AnswerFits (saidLabel r count b) b
 unfolding saidLabel stepped
 told-of r count b = way-told b (way r count (named (r .call) b) (loadOf b))
 
@@ -127,8 +128,8 @@ lock-length : (lock : Bool) (k : ℕ) (x : List ℕ) → length ((if lock then k
 lock-length true k x = omega arith
 lock-length false k x = omega arith
 
-pub frame-short : (x : Answer) (b : List ℕ) → Sized b → getD b 12 0 ≤ 31 → Told x b → length (answerFrame x b) ≤ 36
-unfolding answerFrame blockBytes Told
+pub frame-short : (x : Answer) (b : List ℕ) → Sized b → getD b 12 0 ≤ 31 → AnswerFits x b → length (answerFrame x b) ≤ 36
+unfolding answerFrame blockBytes AnswerFits
 frame-short a.Silent b s z t = omega arith
 frame-short (a.Error e) b s z t = omega (arith, length-framed 0xFFFF true (1 ∷ e ∷ []))
 frame-short a.Done b s z t = omega (arith, length-framed 0xFFFF true (0 ∷ []))

@@ -10,13 +10,14 @@ use Rattle.request.specs.declared.label.Request.{Request}
 use Rattle.label.specs.declared.step.Label.{Label}
 use Rattle.label.specs.declared.step.Stepped.{Stepped}
 use Rattle.label.specs.Step.{act}
-use Rattle.label.specs.Body.{Fits, storeOf, loadOf, stepped, named}
+use Rattle.label.specs.Body.{storeOf, loadOf, stepped, named}
+use Rattle.label.specs.Facts.{WorkFits}
 use Rattle.label.proofs.Ways.{Way, stays, offs, wakes, moves, starts, says, hushes, selects, readies, drops, writes, locks, afis, dsfids, afiLocks, dsfidLocks, way}
 use Rattle.label.proofs.Stored.{stored-between}
 
 way-fits : {call : Call} {count lock : ℕ} {l : Label} {s : Stepped} (b : List ℕ) → getD b 11 0 ≡ l .blocks → getD b 12 0 ≡ l .size
-    → Way call count lock l s → Fits (s .work) count b
-unfolding Fits
+    → Way call count lock l s → WorkFits (s .work) count b
+unfolding WorkFits
 way-fits b e f stays = tt
 way-fits b e f offs = tt
 way-fits b e f (wakes x) = tt
@@ -34,11 +35,11 @@ way-fits b e f (dsfids v x y) = tt
 way-fits b e f (afiLocks x) = tt
 way-fits b e f (dsfidLocks x) = tt
 
-pub act-fits : (r : Request) (count lock : ℕ) (l : Label) (b : List ℕ) → getD b 11 0 ≡ l .blocks → getD b 12 0 ≡ l .size → Fits (act r count lock l .work) count b
+pub act-fits : (r : Request) (count lock : ℕ) (l : Label) (b : List ℕ) → getD b 11 0 ≡ l .blocks → getD b 12 0 ≡ l .size → WorkFits (act r count lock l .work) count b
 act-fits r count lock l b e f = way-fits b e f (way r count lock l)
 
 -- as the step in place needs it: after its label is stored
-pub step-fits : (r : Request) (count : ℕ) (b : List ℕ) (l : Label) → Fits (stepped r count b .work) count (storeOf b l)
+pub step-fits : (r : Request) (count : ℕ) (b : List ℕ) (l : Label) → WorkFits (stepped r count b .work) count (storeOf b l)
 unfolding stepped loadOf
 step-fits r count b l =
     act-fits r count (named (r .call) b) (loadOf b) (storeOf b l) (stored-between b l 11 (omega arith) (omega arith)) (stored-between b l 12 (omega arith) (omega arith))

@@ -16,16 +16,17 @@ use Rattle.frame.proofs.Stores.{sets-off, part-off, part-ext}
 use Rattle.request.specs.declared.label.Target.{Target}
 use Rattle.request.specs.declared.label.Target.the-variants as t
 use Rattle.request.specs.declared.label.Family.{Family}
-use Rattle.request.specs.declared.label.Order.the-variants as o
+use Rattle.request.specs.declared.table.Task.the-variants.{Select}
 use Rattle.request.specs.declared.label.Call.{Call}
-use Rattle.request.specs.declared.label.Call.the-variants as k
+use Rattle.request.specs.declared.label.Call.the-variants.{Ignored, Off, On, EndOfFrame, Nobody, Inventory, Fault, Do}
 use Rattle.request.specs.declared.label.Request.{Request}
 use Rattle.label.specs.declared.step.Label.{Label}
 use Rattle.label.specs.declared.step.Answer.the-variants as a
 use Rattle.label.specs.declared.step.Work.{Work}
 use Rattle.label.specs.declared.step.Work.the-variants as w
 use Rattle.label.specs.declared.step.Stepped.{Stepped}
-use Rattle.label.specs.Step.{withState, ended, silent, ready, inventory, acts, perform, passed, asked, called, act}
+use Rattle.label.specs.Step.{withState, ended, silent, ready, heeds, inventory, acts, passed, asked, faulted, called, act}
+use Rattle.request.specs.Table.{rowOf}
 use Rattle.label.specs.Locks.{lockOn}
 use Rattle.label.specs.Body.{loadOf, storeOf, worked, stepped, nextLabel, saidLabel, named, Sized, blocksOf, sizeOf, blockAt}
 use Rattle.label.specs.Slots.{clear}
@@ -208,43 +209,45 @@ module _ (r : Request) (bytes b : List ℕ) (long : 25 ≤ length b) where
 -- ---- quiet, another's Select, off
 
 -- state 2: an Inventory is not answered, and starts no slot
-module _ (uid : List ℕ) (family : Family) (sixteen : Bool) (m e : ℕ) (b : List ℕ) (q : getD b 14 0 ≡ 2) where
-  quiet-stepped : (n : ℕ) → stepped (record { uid = uid; call = k.Inventory family sixteen m e }) n b ≡ silent (ended (loadOf b))
-  unfolding stepped act called inventory ready loadOf
+module _ (uid : List ℕ) (family : Family) (sixteen : Bool) (bits mask : ℕ) (b : List ℕ) (q : getD b 14 0 ≡ 2) where
+  quiet-stepped : (n : ℕ) → stepped (record { uid = uid; call = Inventory family sixteen bits mask }) n b ≡ silent (ended (loadOf b))
+  unfolding stepped act called inventory heeds ready loadOf
   quiet-stepped n = rw q
 
-  pub quiet-silent : (n : ℕ) → saidLabel (record { uid = uid; call = k.Inventory family sixteen m e }) n b ≡ a.Silent
+  pub quiet-silent : (n : ℕ) → saidLabel (record { uid = uid; call = Inventory family sixteen bits mask }) n b ≡ a.Silent
   quiet-silent n = said-silent _ n b (ended (loadOf b)) (quiet-stepped n)
 
-  pub quiet-still : (bytes : List ℕ) → nextLabel (record { uid = uid; call = k.Inventory family sixteen m e }) bytes b ≡ clear b
+  pub quiet-still : (bytes : List ℕ) → nextLabel (record { uid = uid; call = Inventory family sixteen bits mask }) bytes b ≡ clear b
   quiet-still bytes = next-silent _ bytes b (ended (loadOf b)) (quiet-stepped (length bytes)) ∙ store-ended b
 
 -- state 3: Select for another UID readies it, silently
-module _ (uid : List ℕ) (b : List ℕ) (long : 25 ≤ length b) (q : getD b 14 0 ≡ 3) (other : num uid ≡ num (part 0 8 b) → ⊥) where
-  other-stepped : (n : ℕ) → stepped (record { uid = uid; call = k.Ask t.One o.Select }) n b ≡ silent (withState 1 (ended (loadOf b)))
-  unfolding stepped act called asked acts passed ended loadOf
+module _ (uid : List ℕ) (p : ℕ) (option : Bool) (b : List ℕ) (long : 25 ≤ length b) (q : getD b 14 0 ≡ 3) (other : num uid ≡ num (part 0 8 b) → ⊥) where
+  other-stepped : (n : ℕ) → stepped (record { uid = uid; call = Do t.One Select p option }) n b ≡ silent (withState 1 (ended (loadOf b)))
+  unfolding stepped act called asked acts passed rowOf ended loadOf
   other-stepped n = rw (ne-eqb (num uid) (num (part 0 8 b)) other, q)
 
-  pub select-other : (bytes : List ℕ) → getD (nextLabel (record { uid = uid; call = k.Ask t.One o.Select }) bytes b) 14 0 ≡ 1
+  pub select-other : (bytes : List ℕ) → getD (nextLabel (record { uid = uid; call = Do t.One Select p option }) bytes b) 14 0 ≡ 1
   select-other bytes =
       ap (λ (x : List ℕ). getD x 14 0) (next-silent _ bytes b (withState 1 (ended (loadOf b))) (other-stepped (length bytes)))
       ∙ stored-state b (withState 1 (ended (loadOf b))) long
 
-  pub select-other-silent : (n : ℕ) → saidLabel (record { uid = uid; call = k.Ask t.One o.Select }) n b ≡ a.Silent
+  pub select-other-silent : (n : ℕ) → saidLabel (record { uid = uid; call = Do t.One Select p option }) n b ≡ a.Silent
   select-other-silent n = said-silent _ n b (withState 1 (ended (loadOf b))) (other-stepped n)
 
 -- state 0, document 01, "Events": every call but Off and On is ignored. `off-silent` and `off-ignores` are statements, which nothing cites
-off-called : (call : Call) (uid : List ℕ) (n lock : ℕ) (l : Label) → eqb (l .state) 0 ≡ true → (call ≡ k.Off → ⊥) → (call ≡ k.On → ⊥)
+off-called : (call : Call) (uid : List ℕ) (n lock : ℕ) (l : Label) → eqb (l .state) 0 ≡ true → (call ≡ Off → ⊥) → (call ≡ On → ⊥)
     → called call uid n lock l ≡ silent l
 unfolding called
-off-called k.Ignored uid n lock l q f g = refl
-off-called k.Off uid n lock l q f g = absurd (f refl)
-off-called k.On uid n lock l q f g = absurd (g refl)
-off-called k.EndOfFrame uid n lock l q f g = rw q
-off-called (k.Inventory family sixteen m e) uid n lock l q f g = rw q
-off-called (k.Ask to order) uid n lock l q f g = rw q
+off-called Ignored uid n lock l q f g = refl
+off-called Off uid n lock l q f g = absurd (f refl)
+off-called On uid n lock l q f g = absurd (g refl)
+off-called EndOfFrame uid n lock l q f g = rw q
+off-called (Inventory family sixteen bits mask) uid n lock l q f g = rw q
+off-called Nobody uid n lock l q f g = rw q
+off-called (Fault to code) uid n lock l q f g = rw q
+off-called (Do to task p option) uid n lock l q f g = rw q
 
-module _ (r : Request) (b : List ℕ) (q : getD b 14 0 ≡ 0) (f : r .call ≡ k.Off → ⊥) (g : r .call ≡ k.On → ⊥) where
+module _ (r : Request) (b : List ℕ) (q : getD b 14 0 ≡ 0) (f : r .call ≡ Off → ⊥) (g : r .call ≡ On → ⊥) where
   off-stepped : (n : ℕ) → stepped r n b ≡ silent (loadOf b)
   unfolding stepped act loadOf
   off-stepped n = off-called (r .call) (r .uid) n (named (r .call) b) (loadOf b) (rw q) f g
@@ -255,16 +258,16 @@ module _ (r : Request) (b : List ℕ) (q : getD b 14 0 ≡ 0) (f : r .call ≡ k
   pub off-ignores : (bytes : List ℕ) → Bytes b → 25 ≤ length b → nextLabel r bytes b ≡ b
   off-ignores bytes c long = next-silent r bytes b (loadOf b) (off-stepped (length bytes)) ∙ store-load b c long
 
--- an order that is at fault before any label is looked at moves no state: one that is selected stays so (a statement, which nothing cites)
-module _ (uid : List ℕ) (to : Target) (e : ℕ) (b : List ℕ) where
-  fault-state : (n : ℕ) → stepped (record { uid = uid; call = k.Ask to (o.Fault e) }) n b .next .state ≡ getD b 14 0
-  unfolding stepped act called asked perform passed ended loadOf
+-- a frame that is at fault before any label is looked at moves no state: one that is selected stays so (a statement, which nothing cites)
+module _ (uid : List ℕ) (to : Target) (code : ℕ) (b : List ℕ) where
+  fault-state : (n : ℕ) → stepped (record { uid = uid; call = Fault to code }) n b .next .state ≡ getD b 14 0
+  unfolding stepped act called faulted ended loadOf
   fault-state n = if-both Keeps (eqb (getD b 14 0) 0) refl (if-both Keeps (acts to uid (loadOf b)) refl refl)
     where
       Keeps : Stepped → Type 0
       Keeps s = s .next .state ≡ getD b 14 0
 
-  pub fault-stays : (bytes : List ℕ) → 25 ≤ length b → getD (nextLabel (record { uid = uid; call = k.Ask to (o.Fault e) }) bytes b) 14 0 ≡ getD b 14 0
+  pub fault-stays : (bytes : List ℕ) → 25 ≤ length b → getD (nextLabel (record { uid = uid; call = Fault to code }) bytes b) 14 0 ≡ getD b 14 0
   fault-stays bytes long =
-      let r : Request = record { uid = uid; call = k.Ask to (o.Fault e) } in
+      let r : Request = record { uid = uid; call = Fault to code } in
       low-stays r bytes b long 14 (omega arith) (getD b 14 0) (stored-state b (stepped r (length bytes) b .next) long ∙ fault-state (length bytes))

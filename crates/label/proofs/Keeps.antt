@@ -17,9 +17,10 @@ use Rattle.request.specs.declared.label.Request.{Request}
 use Rattle.label.specs.declared.step.Label.{Label}
 use Rattle.label.specs.declared.step.Work.{Work}
 use Rattle.label.specs.declared.step.Stepped.{Stepped}
-use Rattle.request.specs.Label.{Sound}
+use Rattle.request.proofs.LabelSound.{Sound}
 use Rattle.label.specs.Step.{label, withSlot, ended, ready}
-use Rattle.label.specs.Body.{loadOf, storeOf, worked, stepped, nextLabel, named, Fits}
+use Rattle.label.specs.Body.{loadOf, storeOf, worked, stepped, nextLabel, named}
+use Rattle.label.specs.Facts.{WorkFits}
 use Rattle.label.specs.Facts.{LabelFine}
 use Rattle.label.proofs.Room.{sized-long}
 use Rattle.label.proofs.Locked.{fine-same}
@@ -185,7 +186,7 @@ slot-small l p =
 pub stored-small : (b : List ℕ) (l : Label) → Bytes b → Proper l → Bytes (storeOf b l)
 stored-small b l f p = stored-all b l f (p .dsfid) (p .afi) (omega arith) (omega arith) (slot-small l p) (omega arith)
 
-module _ (x : Work) (bytes b : List ℕ) (s : Bytes b) (fit : Fits x (length bytes) b) (ok : LabelFine b) where
+module _ (x : Work) (bytes b : List ℕ) (s : Bytes b) (fit : WorkFits x (length bytes) b) (ok : LabelFine b) where
   pub worked-fine : LabelFine (worked x bytes b)
   worked-fine =
       let e15 = worked-below x bytes b 15 (omega arith) in

@@ -19,13 +19,13 @@ use Rattle.frame.proofs.Bools.{and-both, same-or-not, if-both, if-same}
 use Rattle.frame.proofs.Numbers.{bytes-small}
 use Rattle.frame.proofs.Stores.{sets-off, part-off, sets-over, bytes-cons, bytes-sets}
 use Rattle.request.specs.declared.label.Family.{Family}
-use Rattle.request.specs.declared.label.Call.the-variants as k
+use Rattle.request.specs.declared.label.Call.the-variants.{EndOfFrame, Inventory}
 use Rattle.request.specs.declared.label.Request.{Request}
 use Rattle.label.specs.declared.step.Label.{Label}
 use Rattle.label.specs.declared.step.Answer.the-variants as a
 use Rattle.label.specs.declared.step.Stepped.{Stepped}
 use Rattle.request.specs.Label.{bare}
-use Rattle.label.specs.Step.{withSlot, ended, told, silent, passes, ready, turn, inventory, endOfFrame, awake, called, act}
+use Rattle.label.specs.Step.{withSlot, ended, told, silent, passes, ready, heeds, turn, opens, inventory, endOfFrame, awake, called, act}
 use Rattle.label.specs.Body.{loadOf, storeOf, worked, stepped, nextLabel, saidLabel}
 use Rattle.label.specs.Answer.{answerFrame}
 use Rattle.label.specs.Facts.{LabelFine}
@@ -82,7 +82,7 @@ unfolding clear ended
 store-ended b = store-seek b 255 0 0
 
 takes-seek : (family : Family) (s m e : ℕ) (b : List ℕ) → takesPart family (seek s m e b) ≡ takesPart family b
-unfolding takesPart
+unfolding takesPart heeds ready loadOf
 takes-seek family s m e b =
     ap₂ (λ (x y : ℕ). (eqb x 1 || eqb x 3) && passes family y) (seek-getD s m e b 14 (omega arith)) (seek-getD s m e b 9 (omega arith))
 
@@ -120,25 +120,25 @@ module _ (r : Request) (n : ℕ) (b : List ℕ) (l : Label) where
 
 -- one that takes part is awake
 takes-awake : (family : Family) (b : List ℕ) → takesPart family b ≡ true → eqb (getD b 14 0) 0 ≡ false
-unfolding takesPart
+unfolding takesPart heeds ready loadOf
 takes-awake family b h =
     ne-eqb (getD b 14 0) 0 (λ z. false≢true (sym (rw z) ∙ and-both (eqb (getD b 14 0) 1 || eqb (getD b 14 0) 3) (passes family (getD b 9 0)) h .0))
 
 takes-ready : (family : Family) (b : List ℕ) → takesPart family b ≡ true → ready (loadOf b) ≡ true
-unfolding takesPart ready loadOf
+unfolding takesPart ready loadOf heeds
 takes-ready family b h = and-both (eqb (getD b 14 0) 1 || eqb (getD b 14 0) 3) (passes family (getD b 9 0)) h .0
 
 module _ (family : Family) (m e n : ℕ) (b : List ℕ) where
-  inventory-taking : takesPart family b ≡ true → stepped (bare (k.Inventory family true m e)) n b ≡ turn (withSlot 0 m e (loadOf b))
-  unfolding takesPart stepped act called inventory ready ended loadOf
+  inventory-taking : takesPart family b ≡ true → stepped (bare (Inventory family true m e)) n b ≡ turn (withSlot 0 m e (loadOf b))
+  unfolding takesPart stepped act called inventory ready ended loadOf heeds opens
   inventory-taking h = rw (takes-awake family b h, h)
 
-  inventory-not : takesPart family b ≡ false → (getD b 14 0 ≡ 0 → ⊥) → stepped (bare (k.Inventory family true m e)) n b ≡ silent (ended (loadOf b))
-  unfolding takesPart stepped act called inventory ready ended loadOf
+  inventory-not : takesPart family b ≡ false → (getD b 14 0 ≡ 0 → ⊥) → stepped (bare (Inventory family true m e)) n b ≡ silent (ended (loadOf b))
+  unfolding takesPart stepped act called inventory ready ended loadOf heeds opens
   inventory-not h z = rw (ne-eqb (getD b 14 0) 0 z, h)
 
-  inventory-asleep : getD b 14 0 ≡ 0 → stepped (bare (k.Inventory family true m e)) n b ≡ silent (loadOf b)
-  unfolding stepped act called inventory loadOf
+  inventory-asleep : getD b 14 0 ≡ 0 → stepped (bare (Inventory family true m e)) n b ≡ silent (loadOf b)
+  unfolding stepped act called inventory loadOf heeds opens
   inventory-asleep z = rw z
 
 -- an end of frame, by the slot
@@ -156,7 +156,7 @@ end-none l g = rw (le-ltb (l .slot) 15 (omega arith), ne-eqb (l .slot) 15 (λ z.
 
 module _ (s m e : ℕ) (b : List ℕ) (long : 25 ≤ length b) (he : e < 256 ^ 8) (n : ℕ) where
   -- a label in slot s, at an end of frame
-  end-stepped : stepped (bare k.EndOfFrame) n (seek s m e b) ≡ awake (endOfFrame (withSlot s m e (loadOf b))) (withSlot s m e (loadOf b))
+  end-stepped : stepped (bare EndOfFrame) n (seek s m e b) ≡ awake (endOfFrame (withSlot s m e (loadOf b))) (withSlot s m e (loadOf b))
   unfolding stepped act called
   end-stepped = ap (λ (l : Label). awake (endOfFrame l) l) (seek-load s m e b long he)
 
@@ -167,15 +167,15 @@ module _ (s m e : ℕ) (b : List ℕ) (long : 25 ≤ length b) (he : e < 256 ^ 8
       ∙ store-seek (seek s m e b) t m′ e′
       ∙ seek-seek s m e b t m′ e′
 
-  stepped-more : eqb (getD b 14 0) 0 ≡ false → s < 15 → stepped (bare k.EndOfFrame) n (seek s m e b) ≡ turn (withSlot (s + 1) m e (loadOf b))
+  stepped-more : eqb (getD b 14 0) 0 ≡ false → s < 15 → stepped (bare EndOfFrame) n (seek s m e b) ≡ turn (withSlot (s + 1) m e (loadOf b))
   unfolding loadOf
   stepped-more h g = end-stepped ∙ end-more (withSlot s m e (loadOf b)) h g
 
-  stepped-last : eqb (getD b 14 0) 0 ≡ false → s ≡ 15 → stepped (bare k.EndOfFrame) n (seek s m e b) ≡ silent (withSlot 255 0 0 (loadOf b))
+  stepped-last : eqb (getD b 14 0) 0 ≡ false → s ≡ 15 → stepped (bare EndOfFrame) n (seek s m e b) ≡ silent (withSlot 255 0 0 (loadOf b))
   unfolding loadOf ended
   stepped-last h g = end-stepped ∙ end-last (withSlot s m e (loadOf b)) h g
 
-  stepped-none : s ≡ 255 → stepped (bare k.EndOfFrame) n (seek s m e b) ≡ silent (withSlot s m e (loadOf b))
+  stepped-none : s ≡ 255 → stepped (bare EndOfFrame) n (seek s m e b) ≡ silent (withSlot s m e (loadOf b))
   stepped-none g = end-stepped ∙ end-none (withSlot s m e (loadOf b)) g
 
 -- ---- in slot s
@@ -218,11 +218,11 @@ clear-own b f ok z =
     ∙ seek-own b f (omega (arith, sized-long b (ok .sized)))
 
 module _ (family : Family) (m e : ℕ) (bytes b : List ℕ) (f : Bytes b) (ok : LabelFine b) where
-  pub first : nextLabel (bare (k.Inventory family true m e)) bytes b ≡ during family m e 0 b
+  pub first : nextLabel (bare (Inventory family true m e)) bytes b ≡ during family m e 0 b
   first = go (takesPart family b) refl
     where
       not-taking : takesPart family b ≡ false → (t : Bool) → eqb (getD b 14 0) 0 ≡ t
-          → nextLabel (bare (k.Inventory family true m e)) bytes b ≡ during family m e 0 b
+          → nextLabel (bare (Inventory family true m e)) bytes b ≡ during family m e 0 b
       not-taking q true z =
           let y = eqb-true (getD b 14 0) 0 z in
           next-silent _ bytes b (loadOf b) (inventory-asleep family m e (length bytes) b y)
@@ -234,7 +234,7 @@ module _ (family : Family) (m e : ℕ) (bytes b : List ℕ) (f : Bytes b) (ok : 
           ∙ store-ended b
           ∙ sym (during-not family m e 0 b q)
 
-      go : (t : Bool) → takesPart family b ≡ t → nextLabel (bare (k.Inventory family true m e)) bytes b ≡ during family m e 0 b
+      go : (t : Bool) → takesPart family b ≡ t → nextLabel (bare (Inventory family true m e)) bytes b ≡ during family m e 0 b
       go true q =
           next-turn _ bytes b (withSlot 0 m e (loadOf b)) (inventory-taking family m e (length bytes) b q)
           ∙ store-seek b 0 m e
@@ -242,16 +242,16 @@ module _ (family : Family) (m e : ℕ) (bytes b : List ℕ) (f : Bytes b) (ok : 
       go false q = not-taking q (eqb (getD b 14 0) 0) refl
 
 pub said-first : (family : Family) (m e n : ℕ) (b : List ℕ)
-    → saidLabel (bare (k.Inventory family true m e)) n b ≡ (if takesPart family b && endsInSlot (part 0 8 b) e m 0 then a.Found else a.Silent)
+    → saidLabel (bare (Inventory family true m e)) n b ≡ (if takesPart family b && endsInSlot (part 0 8 b) e m 0 then a.Found else a.Silent)
 unfolding loadOf
 said-first family m e n b = go (takesPart family b) refl
   where
-    asleep : takesPart family b ≡ false → (t : Bool) → eqb (getD b 14 0) 0 ≡ t → saidLabel (bare (k.Inventory family true m e)) n b ≡ a.Silent
+    asleep : takesPart family b ≡ false → (t : Bool) → eqb (getD b 14 0) 0 ≡ t → saidLabel (bare (Inventory family true m e)) n b ≡ a.Silent
     asleep q true z = said-silent _ n b (loadOf b) (inventory-asleep family m e n b (eqb-true (getD b 14 0) 0 z))
     asleep q false z = said-silent _ n b (ended (loadOf b)) (inventory-not family m e n b q (eqb-false (getD b 14 0) 0 z))
 
     go : (t : Bool) → takesPart family b ≡ t
-        → saidLabel (bare (k.Inventory family true m e)) n b ≡ (if t && endsInSlot (part 0 8 b) e m 0 then a.Found else a.Silent)
+        → saidLabel (bare (Inventory family true m e)) n b ≡ (if t && endsInSlot (part 0 8 b) e m 0 then a.Found else a.Silent)
     go true q = said-turn _ n b (withSlot 0 m e (loadOf b)) (inventory-taking family m e n b q)
     go false q = asleep q (eqb (getD b 14 0) 0) refl
 
@@ -263,62 +263,62 @@ module _ (family : Family) (m e : ℕ) (b : List ℕ) (ok : LabelFine b) (hm : m
   fits = mask-fits m e hm he
 
   -- with no slot, an end of frame does nothing
-  next-none : (bytes : List ℕ) → nextLabel (bare k.EndOfFrame) bytes (clear b) ≡ clear b
+  pub next-none : (bytes : List ℕ) → nextLabel (bare EndOfFrame) bytes (clear b) ≡ clear b
   unfolding clear
   next-none bytes =
       next-silent _ bytes (seek 255 0 0 b) (withSlot 255 0 0 (loadOf b)) (stepped-none 255 0 0 b long (omega arith) (length bytes) refl)
       ∙ store-again 255 0 0 b long (omega arith) 0 255 0 0
 
-  said-none : (n : ℕ) → saidLabel (bare k.EndOfFrame) n (clear b) ≡ a.Silent
+  pub said-none : (n : ℕ) → saidLabel (bare EndOfFrame) n (clear b) ≡ a.Silent
   unfolding clear
   said-none n = said-silent _ n (seek 255 0 0 b) (withSlot 255 0 0 (loadOf b)) (stepped-none 255 0 0 b long (omega arith) n refl)
 
-  pub step : (s : ℕ) (bytes : List ℕ) → s < 15 → nextLabel (bare k.EndOfFrame) bytes (during family m e s b) ≡ during family m e (suc s) b
+  pub step : (s : ℕ) (bytes : List ℕ) → s < 15 → nextLabel (bare EndOfFrame) bytes (during family m e s b) ≡ during family m e (suc s) b
   step s bytes h = go (takesPart family b) refl
     where
-      go : (t : Bool) → takesPart family b ≡ t → nextLabel (bare k.EndOfFrame) bytes (during family m e s b) ≡ during family m e (suc s) b
+      go : (t : Bool) → takesPart family b ≡ t → nextLabel (bare EndOfFrame) bytes (during family m e s b) ≡ during family m e (suc s) b
       go true q =
-          ap (nextLabel (bare k.EndOfFrame) bytes) (during-taking family m e s b q)
+          ap (nextLabel (bare EndOfFrame) bytes) (during-taking family m e s b q)
           ∙ next-turn _ bytes (seek s m e b) (withSlot (s + 1) m e (loadOf b)) (stepped-more s m e b long fits (length bytes) (takes-awake family b q) h)
           ∙ store-again s m e b long fits 0 (s + 1) m e
           ∙ ap (λ (x : ℕ). seek x m e b) (add-one s)
           ∙ sym (during-taking family m e (suc s) b q)
       go false q =
-          ap (nextLabel (bare k.EndOfFrame) bytes) (during-not family m e s b q) ∙ next-none bytes ∙ sym (during-not family m e (suc s) b q)
+          ap (nextLabel (bare EndOfFrame) bytes) (during-not family m e s b q) ∙ next-none bytes ∙ sym (during-not family m e (suc s) b q)
 
-  pub last : (bytes : List ℕ) → nextLabel (bare k.EndOfFrame) bytes (during family m e 15 b) ≡ clear b
+  pub last : (bytes : List ℕ) → nextLabel (bare EndOfFrame) bytes (during family m e 15 b) ≡ clear b
   last bytes = go (takesPart family b) refl
     where
-      ends : takesPart family b ≡ true → nextLabel (bare k.EndOfFrame) bytes (seek 15 m e b) ≡ seek 255 0 0 b
+      ends : takesPart family b ≡ true → nextLabel (bare EndOfFrame) bytes (seek 15 m e b) ≡ seek 255 0 0 b
       ends q =
           next-silent _ bytes (seek 15 m e b) (withSlot 255 0 0 (loadOf b)) (stepped-last 15 m e b long fits (length bytes) (takes-awake family b q) refl)
           ∙ store-again 15 m e b long fits 0 255 0 0
 
-      go : (t : Bool) → takesPart family b ≡ t → nextLabel (bare k.EndOfFrame) bytes (during family m e 15 b) ≡ clear b
-      go true q = ap (nextLabel (bare k.EndOfFrame) bytes) (during-taking family m e 15 b q) ∙ ends q ∙ sym (clear-is b)
-      go false q = ap (nextLabel (bare k.EndOfFrame) bytes) (during-not family m e 15 b q) ∙ next-none bytes
+      go : (t : Bool) → takesPart family b ≡ t → nextLabel (bare EndOfFrame) bytes (during family m e 15 b) ≡ clear b
+      go true q = ap (nextLabel (bare EndOfFrame) bytes) (during-taking family m e 15 b q) ∙ ends q ∙ sym (clear-is b)
+      go false q = ap (nextLabel (bare EndOfFrame) bytes) (during-not family m e 15 b q) ∙ next-none bytes
 
   pub said-step : (s n : ℕ) → s < 15
-      → saidLabel (bare k.EndOfFrame) n (during family m e s b) ≡ (if takesPart family b && endsInSlot (part 0 8 b) e m (suc s) then a.Found else a.Silent)
+      → saidLabel (bare EndOfFrame) n (during family m e s b) ≡ (if takesPart family b && endsInSlot (part 0 8 b) e m (suc s) then a.Found else a.Silent)
   unfolding loadOf
   said-step s n h = go (takesPart family b) refl
     where
       go : (t : Bool) → takesPart family b ≡ t
-          → saidLabel (bare k.EndOfFrame) n (during family m e s b) ≡ (if t && endsInSlot (part 0 8 b) e m (suc s) then a.Found else a.Silent)
+          → saidLabel (bare EndOfFrame) n (during family m e s b) ≡ (if t && endsInSlot (part 0 8 b) e m (suc s) then a.Found else a.Silent)
       go true q =
-          ap (saidLabel (bare k.EndOfFrame) n) (during-taking family m e s b q)
+          ap (saidLabel (bare EndOfFrame) n) (during-taking family m e s b q)
           ∙ said-turn _ n (seek s m e b) (withSlot (s + 1) m e (loadOf b)) (stepped-more s m e b long fits n (takes-awake family b q) h)
           ∙ ap (λ (x : ℕ). if endsInSlot (part 0 8 b) e m x then a.Found else a.Silent) (add-one s)
-      go false q = ap (saidLabel (bare k.EndOfFrame) n) (during-not family m e s b q) ∙ said-none n
+      go false q = ap (saidLabel (bare EndOfFrame) n) (during-not family m e s b q) ∙ said-none n
 
-  pub said-last : (n : ℕ) → saidLabel (bare k.EndOfFrame) n (during family m e 15 b) ≡ a.Silent
+  pub said-last : (n : ℕ) → saidLabel (bare EndOfFrame) n (during family m e 15 b) ≡ a.Silent
   said-last n = go (takesPart family b) refl
     where
-      go : (t : Bool) → takesPart family b ≡ t → saidLabel (bare k.EndOfFrame) n (during family m e 15 b) ≡ a.Silent
+      go : (t : Bool) → takesPart family b ≡ t → saidLabel (bare EndOfFrame) n (during family m e 15 b) ≡ a.Silent
       go true q =
-          ap (saidLabel (bare k.EndOfFrame) n) (during-taking family m e 15 b q)
+          ap (saidLabel (bare EndOfFrame) n) (during-taking family m e 15 b q)
           ∙ said-silent _ n (seek 15 m e b) (withSlot 255 0 0 (loadOf b)) (stepped-last 15 m e b long fits n (takes-awake family b q) refl)
-      go false q = ap (saidLabel (bare k.EndOfFrame) n) (during-not family m e 15 b q) ∙ said-none n
+      go false q = ap (saidLabel (bare EndOfFrame) n) (during-not family m e 15 b q) ∙ said-none n
 
 -- ---- its rules
 

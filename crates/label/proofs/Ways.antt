@@ -11,20 +11,22 @@ use Rattle.frame.specs.Ending.{endsIn, endsInSlot}
 use Rattle.frame.proofs.Bools.{and-both, if-either}
 use Rattle.request.specs.declared.label.Target.{Target}
 use Rattle.request.specs.declared.label.Family.{Family}
-use Rattle.request.specs.declared.label.Order.{Order}
-use Rattle.request.specs.declared.label.Order.the-variants as o
+use Rattle.request.specs.declared.table.Task.{Task}
+use Rattle.request.specs.declared.table.Task.the-variants as t
 use Rattle.request.specs.declared.label.Call.{Call}
-use Rattle.request.specs.declared.label.Call.the-variants as k
+use Rattle.request.specs.declared.label.Call.the-variants.{Ignored, Off, On, EndOfFrame, Nobody, Inventory, Fault, Do}
 use Rattle.request.specs.declared.label.Request.{Request}
 use Rattle.label.specs.declared.step.Label.{Label}
 use Rattle.label.specs.declared.step.Answer.{Answer}
 use Rattle.label.specs.declared.step.Answer.the-variants as a
 use Rattle.label.specs.declared.step.Work.the-variants as w
 use Rattle.label.specs.declared.step.Stepped.{Stepped}
-use Rattle.request.specs.Label.{Sound, Small}
-use Rattle.label.specs.Step.{withState, withSlot, withAfi, withDsfid, withLocks, ended, told, silent, done, off, on, passes, ready, turn, inventory, endOfFrame, acts, readBlock, writeBlock, lockBlock, writeAfi, lockAfi, writeDsfid, lockDsfid, perform, passed, asked, awake, called, act}
+use Rattle.request.specs.Table.{rowOf}
+use Rattle.request.proofs.LabelSound.{Sound}
+use Rattle.label.specs.Step.{withState, withSlot, withAfi, withDsfid, withLocks, ended, told, silent, done, fieldOff, fieldOn, passes, ready, heeds, turn, opens, inventory}
+use Rattle.label.specs.Step.{endOfFrame, acts, readBlock, writeBlock, lockBlock, writeAfi, lockAfi, writeDsfid, lockDsfid, perform, passed, asked, faulted, awake, called, act}
 use Rattle.label.specs.Locks.{lockOn}
-use Rattle.label.specs.Body.{lockOf, named}
+use Rattle.label.specs.Body.{named}
 
 -- found or silent
 abbrev pub turned : Bool → Answer
@@ -34,7 +36,7 @@ turned false = a.Silent
 -- an answer that leaves the label be: a block that it gives is there
 unfoldable pub Calm : Answer → Label → Type 0
 Calm a.Silent l = Unit
-Calm (a.Error e) l = Unit
+Calm (a.Error code) l = Unit
 Calm a.Done l = Unit
 Calm a.Found l = Unit
 Calm (a.Block n lock) l = n ≤ l .blocks
@@ -75,72 +77,65 @@ module _ (call : Call) (count lock : ℕ) (l : Label) where
       (λ e. either (endsInSlot (l .uid) (l .mask) (l .bits) (l .slot + 1)) (λ x. moves true (ltb-true _ _ e)) (λ x. moves false (ltb-true _ _ e)))
       (λ e. either (eqb (l .slot) 15) (λ x. says a.Silent tt) (λ x. stays))
 
-way-inventory : (family : Family) (sixteen : Bool) (m e count lock : ℕ) (l : Label)
-    → Way (k.Inventory family sixteen m e) count lock l (inventory family sixteen m e l)
-unfolding inventory turn Calm Sound ended
-way-inventory family true m e count lock l =
-    either _ count lock l (ready l && passes family (l .afi))
-    (λ y. let r = and-both (ready l) (passes family (l .afi)) y .0 in
-    either _ count lock l (endsInSlot (l .uid) e m 0) (λ x. starts true m e (λ s. s) r) (λ x. starts false m e (λ s. s) r))
-    (λ n. says a.Silent tt)
-way-inventory family false m e count lock l =
-    either _ count lock l (ready l && passes family (l .afi))
-    (λ y. either _ count lock l (endsIn (l .uid) e m) (λ x. says a.Found tt) (λ x. says a.Silent tt))
-    (λ n. says a.Silent tt)
+module _ (family : Family) (bits mask count lock : ℕ) (l : Label) where
+  opens-way : (sixteen : Bool) → ready l ≡ true → Way (Inventory family sixteen bits mask) count lock l (opens sixteen bits mask (ended l))
+  unfolding opens turn Calm Sound ended
+  opens-way true r =
+      either _ count lock l (endsInSlot (l .uid) mask bits 0) (λ x. starts true bits mask (λ s. s) r) (λ x. starts false bits mask (λ s. s) r)
+  opens-way false r = either _ count lock l (endsIn (l .uid) mask bits) (λ x. says a.Found tt) (λ x. says a.Silent tt)
 
-module _ (to : Target) (count lock : ℕ) (l : Label) where
-  performs : (x : Order) → Way (k.Ask to x) count lock l (perform x count lock (ended l))
-  unfolding perform readBlock writeBlock lockBlock writeAfi lockAfi writeDsfid lockDsfid Calm Sound Small named lockOf ended
-  performs o.Nothing = says a.Silent tt
-  performs (o.Fault e) = says (a.Error e) tt
-  performs o.Quiet = hushes
-  performs (o.Read n b) = either _ count lock l (ltb (l .blocks) n) (λ e. says (a.Error 0x10) tt) (λ e. says (a.Block n b) (ltb-false _ _ e))
-  performs (o.Write n b) =
+  way-inventory : (sixteen : Bool) → Way (Inventory family sixteen bits mask) count lock l (inventory family sixteen bits mask l)
+  unfolding inventory heeds Calm
+  way-inventory sixteen =
+      either _ count lock l (ready l && passes family (l .afi))
+      (λ y. opens-way sixteen (and-both (ready l) (passes family (l .afi)) y .0))
+      (λ n. says a.Silent tt)
+
+module _ (to : Target) (p : ℕ) (option : Bool) (count lock : ℕ) (l : Label) where
+  performs : (x : Task) → Way (Do to x p option) count lock l (perform x p option count lock (ended l))
+  unfolding perform readBlock writeBlock lockBlock writeAfi lockAfi writeDsfid lockDsfid Calm Sound named ended
+  performs t.Quiet = hushes
+  performs t.Read = either _ count lock l (ltb (l .blocks) p) (λ e. says (a.Error 0x10) tt) (λ e. says (a.Block p option) (ltb-false _ _ e))
+  performs t.Write =
       either _ count lock l (not (eqb count (l .size + 1))) (λ e. says (a.Error 0x02) tt)
-      (λ e. either _ count lock l b (λ x. says (a.Error 0x03) tt)
-      (λ x. either _ count lock l (ltb (l .blocks) n) (λ y. says (a.Error 0x10) tt)
+      (λ e. either _ count lock l option (λ x. says (a.Error 0x03) tt)
+      (λ x. either _ count lock l (ltb (l .blocks) p) (λ y. says (a.Error 0x10) tt)
       (λ y. either _ count lock l (eqb lock 1) (λ z. says (a.Error 0x12) tt)
-      (λ z. writes n (λ c. refl) (eqb-true _ _ (not-false (eqb count (l .size + 1)) e)) (ltb-false _ _ y) (eqb-false _ _ z)))))
-  performs (o.Lock n) =
-      either _ count lock l (ltb (l .blocks) n) (λ y. says (a.Error 0x10) tt)
+      (λ z. writes p (λ c. refl) (eqb-true _ _ (not-false (eqb count (l .size + 1)) e)) (ltb-false _ _ y) (eqb-false _ _ z)))))
+  performs t.Lock =
+      either _ count lock l (ltb (l .blocks) p) (λ y. says (a.Error 0x10) tt)
       (λ y. either _ count lock l (eqb lock 1) (λ z. says (a.Error 0x11) tt)
-      (λ z. locks n (λ c. refl) (ltb-false _ _ y) (eqb-false _ _ z)))
-  performs o.Select = selects
-  performs o.Ready = readies
-  performs (o.WriteAfi v) = either _ count lock l (set? (bit 0 (l .locks))) (λ e. says (a.Error 0x12) tt) (λ e. afis v (λ s. s) (eqb-false _ _ e))
-  performs o.LockAfi = either _ count lock l (set? (bit 0 (l .locks))) (λ e. says (a.Error 0x11) tt) (λ e. afiLocks (eqb-false _ _ e))
-  performs (o.WriteDsfid v) = either _ count lock l (set? (bit 1 (l .locks))) (λ e. says (a.Error 0x12) tt) (λ e. dsfids v (λ s. s) (eqb-false _ _ e))
-  performs o.LockDsfid = either _ count lock l (set? (bit 1 (l .locks))) (λ e. says (a.Error 0x11) tt) (λ e. dsfidLocks (eqb-false _ _ e))
-  performs o.Info = says a.Info tt
+      (λ z. locks p (λ c. refl) (ltb-false _ _ y) (eqb-false _ _ z)))
+  performs t.Select = selects
+  performs t.Ready = readies
+  performs t.WriteAfi = either _ count lock l (set? (bit 0 (l .locks))) (λ e. says (a.Error 0x12) tt) (λ e. afis p (λ s. s) (eqb-false _ _ e))
+  performs t.LockAfi = either _ count lock l (set? (bit 0 (l .locks))) (λ e. says (a.Error 0x11) tt) (λ e. afiLocks (eqb-false _ _ e))
+  performs t.WriteDsfid = either _ count lock l (set? (bit 1 (l .locks))) (λ e. says (a.Error 0x12) tt) (λ e. dsfids p (λ s. s) (eqb-false _ _ e))
+  performs t.LockDsfid = either _ count lock l (set? (bit 1 (l .locks))) (λ e. says (a.Error 0x11) tt) (λ e. dsfidLocks (eqb-false _ _ e))
+  performs t.Info = says a.Info tt
 
-  passes-by : (x : Order) → Way (k.Ask to x) count lock l (passed x (ended l))
-  unfolding passed Calm
-  passes-by o.Nothing = says a.Silent tt
-  passes-by (o.Fault e) = says a.Silent tt
-  passes-by o.Quiet = says a.Silent tt
-  passes-by (o.Read n b) = says a.Silent tt
-  passes-by (o.Write n b) = says a.Silent tt
-  passes-by (o.Lock n) = says a.Silent tt
-  passes-by o.Select = either _ count lock l (eqb (ended l .state) 3) (λ e. drops) (λ e. says a.Silent tt)
-  passes-by o.Ready = says a.Silent tt
-  passes-by (o.WriteAfi v) = says a.Silent tt
-  passes-by o.LockAfi = says a.Silent tt
-  passes-by (o.WriteDsfid v) = says a.Silent tt
-  passes-by o.LockDsfid = says a.Silent tt
-  passes-by o.Info = says a.Silent tt
+  passes-by : (x : Task) → Way (Do to x p option) count lock l (passed x (ended l))
+  unfolding passed Calm ended
+  passes-by x = either _ count lock l (eqb (rowOf x .code) 0x25 && eqb (l .state) 3) (λ e. drops) (λ e. says a.Silent tt)
 
-  way-asked : (uid : List ℕ) (x : Order) → Way (k.Ask to x) count lock l (asked to uid x count lock l)
+  way-asked : (uid : List ℕ) (x : Task) → Way (Do to x p option) count lock l (asked to uid x p option count lock l)
   unfolding asked
   way-asked uid x = either _ count lock l (acts to uid l) (λ e. performs x) (λ e. passes-by x)
 
+way-faulted : (to : Target) (uid : List ℕ) (code count lock : ℕ) (l : Label) → Way (Fault to code) count lock l (faulted to uid code l)
+unfolding faulted Calm
+way-faulted to uid code count lock l = either _ count lock l (acts to uid l) (λ e. says (a.Error code) tt) (λ e. says a.Silent tt)
+
 way-called : (call : Call) (uid : List ℕ) (count lock : ℕ) (l : Label) → Way call count lock l (called call uid count lock l)
-unfolding called off on
-way-called k.Ignored uid count lock l = stays
-way-called k.Off uid count lock l = offs
-way-called k.On uid count lock l = either _ count lock l (eqb (l .state) 0) (λ e. wakes (eqb-true _ _ e)) (λ e. stays)
-way-called k.EndOfFrame uid count lock l = awake-way _ count lock l _ (end-way _ count lock l)
-way-called (k.Inventory family sixteen m e) uid count lock l = awake-way _ count lock l _ (way-inventory family sixteen m e count lock l)
-way-called (k.Ask to x) uid count lock l = awake-way _ count lock l _ (way-asked to count lock l uid x)
+unfolding called fieldOff fieldOn Calm
+way-called Ignored uid count lock l = stays
+way-called Off uid count lock l = offs
+way-called On uid count lock l = either _ count lock l (eqb (l .state) 0) (λ e. wakes (eqb-true _ _ e)) (λ e. stays)
+way-called EndOfFrame uid count lock l = awake-way _ count lock l _ (end-way _ count lock l)
+way-called Nobody uid count lock l = awake-way _ count lock l _ (says a.Silent tt)
+way-called (Inventory family sixteen bits mask) uid count lock l = awake-way _ count lock l _ (way-inventory family bits mask count lock l sixteen)
+way-called (Fault to code) uid count lock l = awake-way _ count lock l _ (way-faulted to uid code count lock l)
+way-called (Do to x p option) uid count lock l = awake-way _ count lock l _ (way-asked to p option count lock l uid x)
 
 pub way : (r : Request) (count lock : ℕ) (l : Label) → Way (r .call) count lock l (act r count lock l)
 unfolding act

@@ -12,7 +12,8 @@ use Rattle.frame.proofs.Stores.{sets-off, part-ext, bytes-sets}
 use Rattle.label.specs.declared.step.Work.{Work}
 use Rattle.label.specs.declared.step.Work.the-variants as w
 use Rattle.label.specs.Locks.{LocksFine}
-use Rattle.label.specs.Body.{worked, blockAt, Sized, Fits}
+use Rattle.label.specs.Body.{worked, blockAt, Sized}
+use Rattle.label.specs.Facts.{WorkFits}
 use Rattle.label.proofs.Locked.{room-same, fine-same, with-length, with-below, with-bytes, with-fine}
 use Rattle.label.proofs.Room.{block-after, locks-before}
 
@@ -37,8 +38,8 @@ worked-sized x bytes b s =
     rw (worked-length x bytes b, room-same b (worked x bytes b) (worked-below x bytes b 11 (omega arith)), worked-below x bytes b 11 (omega arith), worked-below x bytes b 12 (omega arith)) s
 
 -- the locks keep their rules
-pub worked-locks : (x : Work) (bytes b : List ℕ) → Bytes b → Fits x (length bytes) b → LocksFine b → LocksFine (worked x bytes b)
-unfolding worked Fits
+pub worked-locks : (x : Work) (bytes b : List ℕ) → Bytes b → WorkFits x (length bytes) b → LocksFine b → LocksFine (worked x bytes b)
+unfolding worked WorkFits
 worked-locks w.Nothing bytes b s h g = g
 worked-locks (w.Write n) bytes b s h g =
     fine-same b (worked (w.Write n) bytes b) (worked-below (w.Write n) bytes b 11 (omega arith))

@@ -1,7 +1,7 @@
 -- Document 01, "Labels": the frame of an answer. Assumes nothing.
 use mathlib.Core.Bool.{Bool, true, false}
 use mathlib.Core.List.{List, [], _∷_, _++_}
-use Prim.Native.Nat.{ℕ, _≤_}
+use Prim.Native.Nat.{ℕ}
 use lib.ListN.{getD}
 use Rattle.frame.specs.Choose.{if_then_else_}
 use Rattle.frame.specs.Number.{part}
@@ -13,7 +13,7 @@ use Rattle.label.specs.Body.{blockAt, sizeOf}
 
 abbrev pub speaks : Answer → Bool
 speaks a.Silent = false
-speaks (a.Error e) = true
+speaks (a.Error code) = true
 speaks a.Done = true
 speaks a.Found = true
 speaks (a.Block n lock) = true
@@ -27,17 +27,8 @@ blockBytes n lock b = (if lock then lockOn n b ∷ [] else []) ++ part (blockAt 
 -- success otherwise 00; each with its check sum
 unfoldable pub answerFrame : Answer → List ℕ → List ℕ
 answerFrame a.Silent b = []
-answerFrame (a.Error e) b = framed (1 ∷ e ∷ [])
+answerFrame (a.Error code) b = framed (1 ∷ code ∷ [])
 answerFrame a.Done b = framed (0 ∷ [])
 answerFrame a.Found b = framed (0 ∷ getD b 8 0 ∷ part 0 8 b)
 answerFrame (a.Block n lock) b = framed (0 ∷ blockBytes n lock b)
 answerFrame a.Info b = framed (0 ∷ 0x0F ∷ (part 0 10 b ++ part 11 3 b))
-
--- an answer that the body can give: the block is there
-unfoldable pub Told : Answer → List ℕ → Type 0
-Told a.Silent b = Unit
-Told (a.Error e) b = Unit
-Told a.Done b = Unit
-Told a.Found b = Unit
-Told (a.Block n lock) b = n ≤ getD b 11 0
-Told a.Info b = Unit

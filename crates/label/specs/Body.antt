@@ -10,10 +10,8 @@ use Rattle.frame.specs.Choose.{if_then_else_}
 use Rattle.frame.specs.Number.{num, bytesOf, part}
 use Rattle.frame.specs.Judge.{fine, bad, orElse, firstOf, byteVerdict}
 use Rattle.frame.specs.declared.verdict.Verdict.{Verdict}
-use Rattle.request.specs.declared.label.Order.{Order}
-use Rattle.request.specs.declared.label.Order.the-variants as o
 use Rattle.request.specs.declared.label.Call.{Call}
-use Rattle.request.specs.declared.label.Call.the-variants as k
+use Rattle.request.specs.declared.label.Call.the-variants.{Ignored, Off, On, EndOfFrame, Nobody, Inventory, Fault, Do}
 use Rattle.request.specs.declared.label.Request.{Request}
 use Rattle.label.specs.declared.step.Label.{Label}
 use Rattle.label.specs.declared.step.Answer.{Answer}
@@ -106,41 +104,22 @@ labelRules b =
 
 -- ---- the step
 
--- the lock of the block that an order writes or locks
-unfoldable pub lockOf : Order → List ℕ → ℕ
-lockOf o.Nothing b = 0
-lockOf (o.Fault e) b = 0
-lockOf o.Quiet b = 0
-lockOf (o.Read n lock) b = 0
-lockOf (o.Write n opt) b = lockOn n b
-lockOf (o.Lock n) b = lockOn n b
-lockOf o.Select b = 0
-lockOf o.Ready b = 0
-lockOf (o.WriteAfi v) b = 0
-lockOf o.LockAfi b = 0
-lockOf (o.WriteDsfid v) b = 0
-lockOf o.LockDsfid b = 0
-lockOf o.Info b = 0
-
+-- the lock of the block that the first parameter names
 unfoldable pub named : Call → List ℕ → ℕ
-named k.Ignored b = 0
-named k.Off b = 0
-named k.On b = 0
-named k.EndOfFrame b = 0
-named (k.Inventory family sixteen m e) b = 0
-named (k.Ask to order) b = lockOf order b
+named Ignored b = 0
+named Off b = 0
+named On b = 0
+named EndOfFrame b = 0
+named Nobody b = 0
+named (Inventory family sixteen bits mask) b = 0
+named (Fault to code) b = 0
+named (Do to task p option) b = lockOn p b
 
 -- a block becomes the bytes sent, or is locked
 unfoldable pub worked : Work → List ℕ → List ℕ → List ℕ
 worked w.Nothing bytes b = b
 worked (w.Write n) bytes b = sets b (blockAt b n) bytes
 worked (w.Lock n) bytes b = withLock n b
-
--- a work that stays inside the body
-unfoldable pub Fits : Work → ℕ → List ℕ → Type 0
-Fits w.Nothing count b = Unit
-Fits (w.Write n) count b = (n ≤ getD b 11 0) × (count ≡ sizeOf b)
-Fits (w.Lock n) count b = n ≤ getD b 11 0
 
 -- old body, request and bytes sent alone decide
 unfoldable pub stepped : Request → ℕ → List ℕ → Stepped

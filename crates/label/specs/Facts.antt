@@ -1,11 +1,16 @@
--- What the rules of a label's body say, as facts. Assumes nothing.
+-- Not for the reader of the paper: what the rules of a label's body say, as facts, and what the writers of a block and of an answer need.
+-- Assumes nothing.
 use mathlib.Core.Path.{_≡_}
 use mathlib.Core.List.{List}
 use Prim.Native.Nat.{ℕ, _+_, _^_, _≤_, _<_}
 use lib.ListN.{getD}
 use Rattle.frame.specs.Number.{num, part}
 use Rattle.label.specs.Locks.{LocksFine}
-use Rattle.label.specs.Body.{Sized}
+use Rattle.label.specs.declared.step.Answer.{Answer}
+use Rattle.label.specs.declared.step.Answer.the-variants as a
+use Rattle.label.specs.declared.step.Work.{Work}
+use Rattle.label.specs.declared.step.Work.the-variants as w
+use Rattle.label.specs.Body.{Sized, sizeOf}
 
 pub record LabelFine (b : List ℕ) : Type 0 where
   pub locks : getD b 10 0 ≤ 3
@@ -20,3 +25,18 @@ pub record LabelFine (b : List ℕ) : Type 0 where
   pub mask : num (part 17 8 b) < 2 ^ getD b 16 0
   pub zeros : (j : ℕ) → j < 7 → getD b (25 + j) 0 ≤ 0
   pub locked : LocksFine b
+
+-- a work that stays inside the body, with count bytes sent
+unfoldable pub WorkFits : Work → ℕ → List ℕ → Type 0
+WorkFits w.Nothing count b = Unit
+WorkFits (w.Write n) count b = (n ≤ getD b 11 0) × (count ≡ sizeOf b)
+WorkFits (w.Lock n) count b = n ≤ getD b 11 0
+
+-- an answer that the body can give: the block is there
+unfoldable pub AnswerFits : Answer → List ℕ → Type 0
+AnswerFits a.Silent b = Unit
+AnswerFits (a.Error code) b = Unit
+AnswerFits a.Done b = Unit
+AnswerFits a.Found b = Unit
+AnswerFits (a.Block n lock) b = n ≤ getD b 11 0
+AnswerFits a.Info b = Unit

@@ -1,5 +1,5 @@
 -- Document 01, "Labels" and "Events": what a label does with a request, and what it answers. Assumes nothing.
-use mathlib.Core.Bool.{Bool, true, not, _&&_, _||_}
+use mathlib.Core.Bool.{Bool, true, false, not, _&&_, _||_}
 use mathlib.Core.List.{List}
 use Prim.Native.Nat.{ℕ, _+_}
 use lib.Dec.{eqb, ltb}
@@ -10,10 +10,11 @@ use Rattle.request.specs.declared.label.Target.{Target}
 use Rattle.request.specs.declared.label.Target.the-variants.{Everyone, Selected, One}
 use Rattle.request.specs.declared.label.Family.{Family}
 use Rattle.request.specs.declared.label.Family.the-variants.{Any, Only}
-use Rattle.request.specs.declared.label.Order.{Order}
-use Rattle.request.specs.declared.label.Order.the-variants as o
+use Rattle.request.specs.Table.{rowOf}
+use Rattle.request.specs.declared.table.Task.{Task}
+use Rattle.request.specs.declared.table.Task.the-variants as t
 use Rattle.request.specs.declared.label.Call.{Call}
-use Rattle.request.specs.declared.label.Call.the-variants as k
+use Rattle.request.specs.declared.label.Call.the-variants.{Ignored, Off, On, EndOfFrame, Nobody, Inventory, Fault, Do}
 use Rattle.request.specs.declared.label.Request.{Request}
 use Rattle.label.specs.declared.step.Label.{Label}
 use Rattle.label.specs.declared.step.Answer.{Answer}
@@ -44,7 +45,7 @@ abbrev pub withState : ℕ → Label → Label
 withState s l = label (l .dsfid) (l .afi) (l .locks) s (l .slot) (l .bits) (l .mask) l
 
 abbrev pub withSlot : ℕ → ℕ → ℕ → Label → Label
-withSlot s m e l = label (l .dsfid) (l .afi) (l .locks) (l .state) s m e l
+withSlot slot bits mask l = label (l .dsfid) (l .afi) (l .locks) (l .state) slot bits mask l
 
 abbrev pub withAfi : ℕ → Label → Label
 withAfi v l = label (l .dsfid) v (l .locks) (l .state) (l .slot) (l .bits) (l .mask) l
@@ -73,17 +74,17 @@ done l = told a.Done l
 
 -- an error is 01, code
 abbrev pub refused : ℕ → Label → Stepped
-refused e l = told (a.Error e) l
+refused code l = told (a.Error code) l
 
 -- ---- field, Inventory, slots
 
 -- off puts every tag in state 0 and clears slot and mask
-unfoldable pub off : Label → Stepped
-off l = silent (withState 0 (ended l))
+unfoldable pub fieldOff : Label → Stepped
+fieldOff l = silent (withState 0 (ended l))
 
 -- on moves tags in state 0 to ready; others stay
-unfoldable pub on : Label → Stepped
-on l = if eqb (l .state) 0 then silent (withState 1 l) else silent l
+unfoldable pub fieldOn : Label → Stepped
+fieldOn l = if eqb (l .state) 0 then silent (withState 1 l) else silent l
 
 -- the AFI passes if absent, 00, or equal to the label's
 unfoldable pub passes : Family → ℕ → Bool
@@ -94,17 +95,22 @@ passes (Only f) afi = eqb f 0 || eqb f afi
 unfoldable pub ready : Label → Bool
 ready l = eqb (l .state) 1 || eqb (l .state) 3
 
+-- the filter: state 1 or 3, and the AFI passes
+unfoldable pub heeds : Family → Label → Bool
+heeds family l = ready l && passes family (l .afi)
+
 -- in a slot a label answers when its UID ends in the mask, with the four bits of the slot above it
 unfoldable pub turn : Label → Stepped
 turn l = if endsInSlot (l .uid) (l .mask) (l .bits) (l .slot) then told a.Found l else silent l
 
--- filter passed and sixteen slots: slot 0 starts; one slot: it answers when its UID ends in the mask
+-- sixteen slots: slot 0 starts; one slot: it answers when its UID ends in the mask
+unfoldable pub opens : Bool → ℕ → ℕ → Label → Stepped
+opens true bits mask l = turn (withSlot 0 bits mask l)
+opens false bits mask l = if endsIn (l .uid) mask bits then told a.Found l else silent l
+
 unfoldable pub inventory : Family → Bool → ℕ → ℕ → Label → Stepped
-inventory family sixteen m e l =
-    if ready l && passes family (l .afi) then
-    (if sixteen then turn (withSlot 0 m e (ended l))
-    else if endsIn (l .uid) e m then told a.Found (ended l)
-    else silent (ended l))
+inventory family sixteen bits mask l =
+    if heeds family l then opens sixteen bits mask (ended l)
     else silent (ended l)
 
 -- a bare end of frame adds one to a running slot; after 15 the sequence ends in silence
@@ -127,19 +133,19 @@ acts One uid l = eqb (num uid) (num (l .uid))
 unfoldable pub readBlock : ℕ → Bool → Label → Stepped
 readBlock n lock l = if ltb (l .blocks) n then refused 0x10 l else told (a.Block n lock) l
 
--- 5 bytes and a block: count bytes were sent; k is the block's lock byte
+-- 5 bytes and a block: count bytes were sent; lock is the block's
 unfoldable pub writeBlock : ℕ → Bool → ℕ → ℕ → Label → Stepped
-writeBlock n opt count k l =
+writeBlock n option count lock l =
     if not (eqb count (l .size + 1)) then refused 0x02 l
-    else if opt then refused 0x03 l
+    else if option then refused 0x03 l
     else if ltb (l .blocks) n then refused 0x10 l
-    else if eqb k 1 then refused 0x12 l
+    else if eqb lock 1 then refused 0x12 l
     else record { next = l; answer = a.Done; work = w.Write n }
 
 unfoldable pub lockBlock : ℕ → ℕ → Label → Stepped
-lockBlock n k l =
+lockBlock n lock l =
     if ltb (l .blocks) n then refused 0x10 l
-    else if eqb k 1 then refused 0x11 l
+    else if eqb lock 1 then refused 0x11 l
     else record { next = l; answer = a.Done; work = w.Lock n }
 
 -- locks: bit 0 AFI, bit 1 DSFID
@@ -155,54 +161,45 @@ writeDsfid v l = if set? (bit 1 (l .locks)) then refused 0x12 l else done (withD
 unfoldable pub lockDsfid : Label → Stepped
 lockDsfid l = if set? (bit 1 (l .locks)) then refused 0x11 l else done (withLocks (l .locks + 2) l)
 
--- Stay quiet is always silent: state 2. 25 selects, 26 readies
-unfoldable pub perform : Order → ℕ → ℕ → Label → Stepped
-perform o.Nothing count k l = silent l
-perform (o.Fault e) count k l = refused e l
-perform o.Quiet count k l = silent (withState 2 l)
-perform (o.Read n lock) count k l = readBlock n lock l
-perform (o.Write n opt) count k l = writeBlock n opt count k l
-perform (o.Lock n) count k l = lockBlock n k l
-perform o.Select count k l = done (withState 3 l)
-perform o.Ready count k l = done (withState 1 l)
-perform (o.WriteAfi v) count k l = writeAfi v l
-perform o.LockAfi count k l = lockAfi l
-perform (o.WriteDsfid v) count k l = writeDsfid v l
-perform o.LockDsfid count k l = lockDsfid l
-perform o.Info count k l = told a.Info l
+-- Stay quiet is always silent: state 2. 25 selects, 26 readies. p is the first parameter
+unfoldable pub perform : Task → ℕ → Bool → ℕ → ℕ → Label → Stepped
+perform t.Quiet p option count lock l = silent (withState 2 l)
+perform t.Read p option count lock l = readBlock p option l
+perform t.Write p option count lock l = writeBlock p option count lock l
+perform t.Lock p option count lock l = lockBlock p lock l
+perform t.Select p option count lock l = done (withState 3 l)
+perform t.Ready p option count lock l = done (withState 1 l)
+perform t.WriteAfi p option count lock l = writeAfi p l
+perform t.LockAfi p option count lock l = lockAfi l
+perform t.WriteDsfid p option count lock l = writeDsfid p l
+perform t.LockDsfid p option count lock l = lockDsfid l
+perform t.Info p option count lock l = told a.Info l
 
--- what one that does not act does: Select, well formed, for another UID sends state 3 to 1
-unfoldable pub passed : Order → Label → Stepped
-passed o.Nothing l = silent l
-passed (o.Fault e) l = silent l
-passed o.Quiet l = silent l
-passed (o.Read n lock) l = silent l
-passed (o.Write n opt) l = silent l
-passed (o.Lock n) l = silent l
-passed o.Select l = if eqb (l .state) 3 then silent (withState 1 l) else silent l
-passed o.Ready l = silent l
-passed (o.WriteAfi v) l = silent l
-passed o.LockAfi l = silent l
-passed (o.WriteDsfid v) l = silent l
-passed o.LockDsfid l = silent l
-passed o.Info l = silent l
+-- what one that does not act does: Select (25), well formed, for another UID sends state 3 to 1
+unfoldable pub passed : Task → Label → Stepped
+passed task l = if eqb (rowOf task .code) 0x25 && eqb (l .state) 3 then silent (withState 1 l) else silent l
 
 -- every label frame, good or bad, first ends a running slot sequence
-unfoldable pub asked : Target → List ℕ → Order → ℕ → ℕ → Label → Stepped
-asked to uid order count k l = if acts to uid l then perform order count k (ended l) else passed order (ended l)
+unfoldable pub asked : Target → List ℕ → Task → ℕ → Bool → ℕ → ℕ → Label → Stepped
+asked to uid task p option count lock l = if acts to uid l then perform task p option count lock (ended l) else passed task (ended l)
 
--- tags in state 0 ignore all else
+unfoldable pub faulted : Target → List ℕ → ℕ → Label → Stepped
+faulted to uid code l = if acts to uid l then refused code (ended l) else silent (ended l)
+
+-- tags in state 0 ignore all but the field
 abbrev pub awake : Stepped → Label → Stepped
 awake s l = if eqb (l .state) 0 then silent l else s
 
--- count is how many bytes a write sent, k the lock byte of the block that the request names
+-- count is how many bytes a write sent, lock that of the block which the first parameter names
 unfoldable pub called : Call → List ℕ → ℕ → ℕ → Label → Stepped
-called k.Ignored uid count lock l = silent l
-called k.Off uid count lock l = off l
-called k.On uid count lock l = on l
-called k.EndOfFrame uid count lock l = awake (endOfFrame l) l
-called (k.Inventory family sixteen m e) uid count lock l = awake (inventory family sixteen m e l) l
-called (k.Ask to order) uid count lock l = awake (asked to uid order count lock l) l
+called Ignored uid count lock l = silent l
+called Off uid count lock l = fieldOff l
+called On uid count lock l = fieldOn l
+called EndOfFrame uid count lock l = awake (endOfFrame l) l
+called Nobody uid count lock l = awake (silent (ended l)) l
+called (Inventory family sixteen bits mask) uid count lock l = awake (inventory family sixteen bits mask l) l
+called (Fault to code) uid count lock l = awake (faulted to uid code l) l
+called (Do to task p option) uid count lock l = awake (asked to uid task p option count lock l) l
 
 unfoldable pub act : Request → ℕ → ℕ → Label → Stepped
-act r count k l = called (r .call) (r .uid) count k l
+act r count lock l = called (r .call) (r .uid) count lock l

@@ -10,7 +10,8 @@ ghost use Prim.Native.Nat.{_≤_};
 ghost use lib.ListN.{length, getD};
 ghost use lib.Seq.{sets};
 ghost use Rattle.label.specs.Body.{Sized};
-ghost use Rattle.label.specs.Answer.{speaks, Told, answerFrame};
+ghost use Rattle.label.specs.Answer.{speaks, answerFrame};
+ghost use Rattle.label.specs.Facts.{AnswerFits};
 
 // Whether there is an answer.
 pub fn speaking(a: Answer) -> bool
@@ -65,15 +66,15 @@ fn say_block(b: &[u8], n: u8, lock: bool, out: &mut [u8]) -> usize
 
 // Writes the frame of an answer to the front of out, and returns its length.
 pub fn write_answer(a: Answer, b: &[u8], out: &mut [u8]) -> usize
-    requires { ⌜ Sized (now b) × Told a (now b) ⌝ }
+    requires { ⌜ Sized (now b) × AnswerFits a (now b) ⌝ }
     requires { ⌜ length (answerFrame a (now b)) ≤ length (now out) ⌝ }
     ensures { λ r. ⌜ (r ≡ length (answerFrame a (now (b .entry)))) × (now (out .exit) ≡ sets (now (out .entry)) 0 (answerFrame a (now (b .entry)))) ⌝ }
 {
     match a {
         Answer::Silent => 0,
-        Answer::Error(e) => {
+        Answer::Error(code) => {
             out[0] = 1;
-            out[1] = e;
+            out[1] = code;
             seal(out, 2)
         }
         Answer::Done => {

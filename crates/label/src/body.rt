@@ -13,12 +13,12 @@ use frame::put::put_number;
 use frame::uid::uid_at;
 use request::label::Call;
 use request::label::Family;
-use request::label::Order;
 use request::label::Request;
 ghost use mathlib.Core.Path.{_≡_};
 ghost use Prim.Native.Nat.{_≤_};
 ghost use lib.ListN.{length};
-ghost use Rattle.label.specs.Body.{Sized, Fits, loadOf, storeOf, blockAt, lockOf, named, worked, stepped, nextLabel, saidLabel};
+ghost use Rattle.label.specs.Body.{Sized, loadOf, storeOf, blockAt, named, worked, stepped, nextLabel, saidLabel};
+ghost use Rattle.label.specs.Facts.{WorkFits};
 ghost use Rattle.label.specs.Slots.{uidOf, takesPart, clear};
 
 // The label that a body holds.
@@ -67,29 +67,19 @@ pub fn place(b: &[u8], n: u8) -> usize
     32 + room + n as usize * size
 }
 
-// The lock of the block that an order writes or locks.
-fn lock_of(b: &[u8], order: Order) -> u8
-    ensures { λ r. ⌜ r ≡ lockOf order (now (b .entry)) ⌝ }
-{
-    match order {
-        Order::Write(n, _) => lock_on(b, n),
-        Order::Lock(n) => lock_on(b, n),
-        _ => 0,
-    }
-}
-
+// The lock of the block that a call's first parameter names.
 fn named_lock(b: &[u8], call: Call) -> u8
     ensures { λ r. ⌜ r ≡ named call (now (b .entry)) ⌝ }
 {
-    let Call::Ask(_, order) = call else {
+    let Call::Do(_, _, p, _) = call else {
         return 0;
     };
-    lock_of(b, order)
+    lock_on(b, p)
 }
 
 // Writes the block, or locks the one, that a step names.
 fn do_work(b: &mut [u8], work: Work, data: &[u8])
-    requires { ⌜ Sized (now b) × Fits work (length (now «data»)) (now b) ⌝ }
+    requires { ⌜ Sized (now b) × WorkFits work (length (now «data»)) (now b) ⌝ }
     ensures { λ _. ⌜ now (b .exit) ≡ worked work (now («data» .entry)) (now (b .entry)) ⌝ }
 {
     match work {
@@ -111,8 +101,8 @@ fn act_on(b: &[u8], r: Request, count: usize) -> Stepped
 {
     let l = load(b);
     let call = r.call;
-    let k = named_lock(b, call);
-    l.act(r, count, k)
+    let lock = named_lock(b, call);
+    l.act(r, count, lock)
 }
 
 // A label's step in place: its body becomes the next body, and what it answers comes back.

@@ -4,11 +4,12 @@ use frame::uid::ends_in_slot;
 use frame::uid::same_uid;
 use request::label::Call;
 use request::label::Family;
-use request::label::Order;
 use request::label::Request;
 use request::label::Target;
+use request::table::Task;
 ghost use mathlib.Core.Path.{_≡_};
-ghost use Rattle.label.specs.Step.{told, withSlot, awake, silent, done, refused, off, on, ended, passes, ready, turn, inventory, endOfFrame, acts, perform, passed, asked, act, readBlock, writeBlock, lockBlock, writeAfi, lockAfi, writeDsfid, lockDsfid, withState};
+ghost use Rattle.label.specs.Step.{told, withSlot, awake, silent, done, refused, fieldOff, fieldOn, ended, passes, ready, heeds, turn, opens, inventory};
+ghost use Rattle.label.specs.Step.{endOfFrame, acts, perform, passed, asked, faulted, act, readBlock, writeBlock, lockBlock, writeAfi, lockAfi, writeDsfid, lockDsfid, withState};
 
 // The part of a label that steps: its body's first 25 bytes.
 pub struct Label {
@@ -81,10 +82,10 @@ impl Label {
         self.told(Answer::Done)
     }
 
-    fn refused(self, e: u8) -> Stepped
-        ensures { λ r. ⌜ r ≡ refused e self ⌝ }
+    fn refused(self, code: u8) -> Stepped
+        ensures { λ r. ⌜ r ≡ refused code self ⌝ }
     {
-        self.told(Answer::Error(e))
+        self.told(Answer::Error(code))
     }
 
     fn put_state(self, state: u8) -> Label
@@ -93,7 +94,7 @@ impl Label {
         Label { state, ..self }
     }
 
-    // With a slot sequence in slot s, mask length m and mask e.
+    // With a slot sequence in a slot, and its mask of so many bits.
     fn in_slot(self, slot: u8, bits: u8, mask: u64) -> Label
         ensures { λ r. ⌜ r ≡ withSlot slot bits mask self ⌝ }
     {
@@ -120,13 +121,13 @@ impl Label {
     }
 
     fn field_off(self) -> Stepped
-        ensures { λ r. ⌜ r ≡ off self ⌝ }
+        ensures { λ r. ⌜ r ≡ fieldOff self ⌝ }
     {
         self.ended().put_state(0).silent()
     }
 
     fn field_on(self) -> Stepped
-        ensures { λ r. ⌜ r ≡ on self ⌝ }
+        ensures { λ r. ⌜ r ≡ fieldOn self ⌝ }
     {
         if self.state == 0 {
             return self.put_state(1).silent();
@@ -145,25 +146,39 @@ impl Label {
         self.silent()
     }
 
-    fn inventory(self, family: Family, sixteen: bool, m: u8, e: u64) -> Stepped
-        ensures { λ r. ⌜ r ≡ awake (inventory family sixteen m e self) self ⌝ }
+    // Ready or selected, and its AFI passes.
+    pub fn heeds(self, family: Family) -> bool
+        ensures { λ r. ⌜ r ≡ heeds family self ⌝ }
+    {
+        if self.is_ready() {
+            return passing(family, self.afi);
+        }
+        false
+    }
+
+    // Sixteen slots: slot 0 starts; one slot: answers if its UID ends in the mask.
+    fn opens(self, sixteen: bool, bits: u8, mask: u64) -> Stepped
+        ensures { λ r. ⌜ r ≡ opens sixteen bits mask self ⌝ }
+    {
+        if sixteen {
+            return self.in_slot(0, bits, mask).turn();
+        }
+        let u = self.uid;
+        if ends_in(u, mask, bits as u32) {
+            return self.told(Answer::Found);
+        }
+        self.silent()
+    }
+
+    fn inventory(self, family: Family, sixteen: bool, bits: u8, mask: u64) -> Stepped
+        ensures { λ r. ⌜ r ≡ awake (inventory family sixteen bits mask self) self ⌝ }
     {
         if self.state == 0 {
             return self.silent();
         }
         let l = self.ended();
-        if self.is_ready() {
-            if passing(family, self.afi) {
-                if sixteen {
-                    return l.in_slot(0, m, e).turn();
-                }
-                let u = self.uid;
-                if ends_in(u, e, m as u32) {
-                    return l.told(Answer::Found);
-                }
-                return l.silent();
-            }
-            return l.silent();
+        if self.heeds(family) {
+            return l.opens(sixteen, bits, mask);
         }
         l.silent()
     }
@@ -208,9 +223,9 @@ impl Label {
         self.told(Answer::Block(n, lock))
     }
 
-    // count bytes were sent; k is the lock byte of block n.
-    fn write_block(self, n: u8, option: bool, count: usize, k: u8) -> Stepped
-        ensures { λ r. ⌜ r ≡ writeBlock n option count k self ⌝ }
+    // count bytes were sent; lock is that of block n.
+    fn write_block(self, n: u8, option: bool, count: usize, lock: u8) -> Stepped
+        ensures { λ r. ⌜ r ≡ writeBlock n option count lock self ⌝ }
     {
         if count != self.size as usize + 1 {
             return self.refused(2);
@@ -221,7 +236,7 @@ impl Label {
         if self.blocks < n {
             return self.refused(0x10);
         }
-        if k == 1 {
+        if lock == 1 {
             return self.refused(0x12);
         }
         Stepped {
@@ -231,13 +246,13 @@ impl Label {
         }
     }
 
-    fn lock_block(self, n: u8, k: u8) -> Stepped
-        ensures { λ r. ⌜ r ≡ lockBlock n k self ⌝ }
+    fn lock_block(self, n: u8, lock: u8) -> Stepped
+        ensures { λ r. ⌜ r ≡ lockBlock n lock self ⌝ }
     {
         if self.blocks < n {
             return self.refused(0x10);
         }
-        if k == 1 {
+        if lock == 1 {
             return self.refused(0x11);
         }
         Stepped {
@@ -289,32 +304,30 @@ impl Label {
         next.done()
     }
 
-    // What one that is meant does.
-    fn perform(self, order: Order, count: usize, k: u8) -> Stepped
-        ensures { λ r. ⌜ r ≡ perform order count k self ⌝ }
+    // What one that is meant does; p is the task's first parameter.
+    fn perform(self, task: Task, p: u8, option: bool, count: usize, lock: u8) -> Stepped
+        ensures { λ r. ⌜ r ≡ perform task p option count lock self ⌝ }
     {
-        match order {
-            Order::Nothing => self.silent(),
-            Order::Fault(e) => self.refused(e),
-            Order::Quiet => self.put_state(2).silent(),
-            Order::Read(n, lock) => self.read_block(n, lock),
-            Order::Write(n, option) => self.write_block(n, option, count, k),
-            Order::Lock(n) => self.lock_block(n, k),
-            Order::Select => self.put_state(3).done(),
-            Order::Ready => self.put_state(1).done(),
-            Order::WriteAfi(v) => self.write_afi(v),
-            Order::LockAfi => self.lock_afi(),
-            Order::WriteDsfid(v) => self.write_dsfid(v),
-            Order::LockDsfid => self.lock_dsfid(),
-            Order::Info => self.told(Answer::Info),
+        match task {
+            Task::Quiet => self.put_state(2).silent(),
+            Task::Read => self.read_block(p, option),
+            Task::Write => self.write_block(p, option, count, lock),
+            Task::Lock => self.lock_block(p, lock),
+            Task::Select => self.put_state(3).done(),
+            Task::Ready => self.put_state(1).done(),
+            Task::WriteAfi => self.write_afi(p),
+            Task::LockAfi => self.lock_afi(),
+            Task::WriteDsfid => self.write_dsfid(p),
+            Task::LockDsfid => self.lock_dsfid(),
+            Task::Info => self.told(Answer::Info),
         }
     }
 
     // What one that is not meant does: Select for another UID sends state 3 to 1.
-    fn passed(self, order: Order) -> Stepped
-        ensures { λ r. ⌜ r ≡ passed order self ⌝ }
+    fn passed(self, task: Task) -> Stepped
+        ensures { λ r. ⌜ r ≡ passed task self ⌝ }
     {
-        let Order::Select = order else {
+        let Task::Select = task else {
             return self.silent();
         };
         if self.state == 3 {
@@ -323,35 +336,69 @@ impl Label {
         self.silent()
     }
 
-    fn asked(self, to: Target, uid: [u8; 8], order: Order, count: usize, k: u8) -> Stepped
-        ensures { λ r. ⌜ r ≡ awake (asked to uid order count k self) self ⌝ }
+    // A frame that no label acts on.
+    fn left_alone(self) -> Stepped
+        ensures { λ r. ⌜ r ≡ awake (silent (ended self)) self ⌝ }
+    {
+        if self.state == 0 {
+            return self.silent();
+        }
+        self.ended().silent()
+    }
+
+    fn faulted(self, to: Target, uid: [u8; 8], code: u8) -> Stepped
+        ensures { λ r. ⌜ r ≡ awake (faulted to uid code self) self ⌝ }
     {
         if self.state == 0 {
             return self.silent();
         }
         let l = self.ended();
         if self.is_meant(to, uid) {
-            return l.perform(order, count, k);
+            return l.refused(code);
         }
-        l.passed(order)
+        l.silent()
     }
 
-    // The label's step; count is how many bytes a write sent, k the lock byte of the block that the request names.
+    fn asked(
+        self,
+        to: Target,
+        uid: [u8; 8],
+        task: Task,
+        p: u8,
+        option: bool,
+        count: usize,
+        lock: u8,
+    ) -> Stepped
+        ensures { λ r. ⌜ r ≡ awake (asked to uid task p option count lock self) self ⌝ }
+    {
+        if self.state == 0 {
+            return self.silent();
+        }
+        let l = self.ended();
+        if self.is_meant(to, uid) {
+            return l.perform(task, p, option, count, lock);
+        }
+        l.passed(task)
+    }
+
+    // The label's step; count is how many bytes a write sent, lock that of the block which the first parameter names.
     // Off and on are for every state; tags in state 0 ignore all else.
-    pub fn act(self, r: Request, count: usize, k: u8) -> Stepped
-        ensures { λ s. ⌜ s ≡ act r count k self ⌝ }
+    pub fn act(self, r: Request, count: usize, lock: u8) -> Stepped
+        ensures { λ s. ⌜ s ≡ act r count lock self ⌝ }
     {
         let call = r.call;
+        let uid = r.uid;
         match call {
             Call::Ignored => self.silent(),
             Call::Off => self.field_off(),
             Call::On => self.field_on(),
             Call::EndOfFrame => self.end_of_frame(),
-            Call::Inventory(family, sixteen, m, e) => self.inventory(family, sixteen, m, e),
-            Call::Ask(to, order) => {
-                let uid = r.uid;
-                self.asked(to, uid, order, count, k)
+            Call::Nobody => self.left_alone(),
+            Call::Inventory(family, sixteen, bits, mask) => {
+                self.inventory(family, sixteen, bits, mask)
             }
+            Call::Fault(to, code) => self.faulted(to, uid, code),
+            Call::Do(to, task, p, option) => { self.asked(to, uid, task, p, option, count, lock) }
         }
     }
 }

@@ -14,19 +14,17 @@ use Rattle.frame.specs.declared.verdict.Verdict.{Verdict}
 use Rattle.frame.proofs.Bools.{and-both, if-both}
 use Rattle.label.specs.declared.step.Answer.{Answer}
 use Rattle.label.specs.declared.step.Answer.the-variants as a
-use Rattle.request.specs.Label as labels
 use Rattle.label.specs.Body.{Sized, labelRules, nextLabel}
-use Rattle.label.specs.Answer.{Told}
-use Rattle.request.proofs.Decoded as label-decoded
+use Rattle.label.specs.Facts.{AnswerFits}
+use Rattle.request.proofs.LabelSound as label-decoded
 use Rattle.label.proofs.Locked.{room-same}
 use Rattle.label.proofs.Fine as label-fine
 use Rattle.label.proofs.Keeps as label-keeps
 use Rattle.label.proofs.Answers as label-answers
 use Rattle.label.proofs.Floor.{numbers-stay}
-use Rattle.request.specs.Chip as chips
 use Rattle.chip.specs.Body.{chipRules, saidChip}
 use Rattle.chip.proofs.Keeps as chip-keeps
-use Rattle.request.proofs.Orders as chip-decoded
+use Rattle.request.proofs.ChipSound as chip-decoded
 use Rattle.chip.proofs.Answers as chip-answers
 use Rattle.rack.specs.File.{Kind, Label, Chip, Other}
 use Rattle.rack.specs.File.{kindOf, known, lengthFits, bodyRules}
@@ -36,9 +34,9 @@ use Rattle.rack.specs.Event.{Event, aired, nextBody, saidBy, frameOf}
 -- ---- sound signals
 
 pub record SignalSound (event : Event) : Type 0 where
-  pub call : labels.Sound (event .signal .label .call)
+  pub call : label-decoded.Sound (event .signal .label .call)
   pub sent : Bytes (event .bytes)
-  pub asked : chips.Sound (event .signal .chip)
+  pub asked : chip-decoded.Sound (event .signal .chip)
 
 -- what every event and frame make
 pub signal-sound : (number : ℕ) (f : List ℕ) → Bytes f → SignalSound (aired number f)
@@ -167,8 +165,8 @@ step-keeps kind event d b s = record { fits = rw (body-length kind event d b) (s
 -- ---- what it says
 
 -- the block that is told is there while the number of blocks stays
-told-same : (x : Answer) (b c : List ℕ) → getD c 11 0 ≡ getD b 11 0 → Told x b → Told x c
-unfolding Told
+told-same : (x : Answer) (b c : List ℕ) → getD c 11 0 ≡ getD b 11 0 → AnswerFits x b → AnswerFits x c
+unfolding AnswerFits
 told-same a.Silent b c e t = t
 told-same (a.Error code) b c e t = t
 told-same a.Done b c e t = t

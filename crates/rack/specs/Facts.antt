@@ -7,7 +7,7 @@ use lib.ListN.{length}
 use Rattle.frame.specs.Judge.{fine}
 use Rattle.frame.specs.Number.{part}
 use Rattle.label.specs.Body.{Sized}
-use Rattle.label.specs.Answer.{Told}
+use Rattle.label.specs.Facts.{AnswerFits}
 use Rattle.rack.specs.File.{Kind}
 use Rattle.rack.specs.declared.tag.Said.{Said}
 use Rattle.rack.specs.declared.tag.Said.the-variants as s
@@ -47,7 +47,7 @@ pub record TagFine (kind : Kind) (b : List ℕ) : Type 0 where
 -- something that a body can say: what the answer's writer needs
 unfoldable pub Sayable : Said → List ℕ → Type 0
 Sayable s.Nothing b = Unit
-Sayable (s.Label a) b = Sized b × Told a b
+Sayable (s.Label a) b = Sized b × AnswerFits a b
 Sayable (s.Chip a) b = 80 ≤ length b
 
 -- body i where its entry says that it lies

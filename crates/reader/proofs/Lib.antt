@@ -1,11 +1,17 @@
--- The reader's side, as laws.
-pub mod Ways
-pub mod Valid
-pub mod Plans
-pub mod Meant
-pub mod Read
-pub mod Gives
-pub mod Made
-pub mod Given
-pub mod GivenChip
-pub mod Same
+-- The reader's side, as laws; each file's name begins with the definitions that it is about.
+pub mod CommandValid
+pub mod CommandWays
+pub mod PlanParts
+pub mod RequestWays
+pub mod RequestMeant
+pub mod RequestOneReply
+pub mod AnswerWays
+pub mod AnswerRead
+pub mod AnswerSuccess
+pub mod AnswerOneReply
+pub mod TagsLabelRead
+pub mod TagsChipRead
+pub mod TagsMade
+pub mod TagsLabelGiven
+pub mod TagsChipGiven
+pub mod ToldWays

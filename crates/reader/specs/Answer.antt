@@ -10,8 +10,10 @@ use Rattle.frame.specs.CheckSum.{right, content}
 use Rattle.frame.specs.Ending.{endsIn}
 use Rattle.request.specs.declared.label.Target.{Target}
 use Rattle.request.specs.declared.label.Target.the-variants.{Everyone, Selected, One}
-use Rattle.reader.specs.declared.command.Task.{Task}
-use Rattle.reader.specs.declared.command.Task.the-variants as t
+use Rattle.request.specs.Table.{rowOf, answers}
+use Rattle.request.specs.declared.table.Task.{Task}
+use Rattle.request.specs.declared.table.Success.{Success}
+use Rattle.request.specs.declared.table.Success.the-variants as s
 use Rattle.reader.specs.declared.command.ChipTask.{ChipTask}
 use Rattle.reader.specs.declared.command.ChipTask.the-variants as p
 use Rattle.reader.specs.declared.command.Command.{Command}
@@ -24,14 +26,14 @@ use Rattle.reader.specs.Command.{valid}
 -- document 01's number of each meaning: 7, 8 or 9, or 0 for a success
 abbrev pub numberOf : Meaning → ℕ
 numberOf (m.Refused n) = n
-numberOf (m.Error e) = 0
+numberOf (m.Error code) = 0
 numberOf m.Done = 0
-numberOf (m.Found d) = 0
-numberOf (m.Block at n) = 0
-numberOf (m.LockAndBlock k at n) = 0
-numberOf (m.Info d f b z i) = 0
+numberOf (m.Found dsfid) = 0
+numberOf (m.Block place long) = 0
+numberOf (m.LockAndBlock lock place long) = 0
+numberOf (m.Info dsfid afi blocks size ic) = 0
 numberOf (m.Id id) = 0
-numberOf (m.Word w) = 0
+numberOf (m.Word word) = 0
 numberOf m.Uid = 0
 
 -- every other number in a refusal is 0; a meaning with no UID has zeros beside it
@@ -46,28 +48,25 @@ abbrev pub fits : Bool → Reading → Reading
 fits true r = r
 fits false r = said (m.Refused 9)
 
--- ---- labels; s is the frame's content, without its check sum
+-- ---- labels; c is the frame's content, without its check sum
 
 -- codes 01, 02, 03, 10, 11, 12
 unfoldable pub errorCode : ℕ → Bool
-errorCode e = (leb 1 e && leb e 3) || (leb 0x10 e && leb e 0x12)
+errorCode code = (leb 1 code && leb code 3) || (leb 0x10 code && leb code 0x12)
 
--- an error frame fits any label command that has an answer, save Inventory
+-- an error frame is 01, code
 unfoldable pub isError : List ℕ → Bool
-isError s = eqb (length s) 2 && (eqb (getD s 0 0) 1 && errorCode (getD s 1 0))
-
-abbrev pub orError : List ℕ → Reading → Reading
-orError s other = if isError s then said (m.Error (getD s 1 0)) else other
+isError c = eqb (length c) 2 && (eqb (getD c 0 0) 1 && errorCode (getD c 1 0))
 
 unfoldable pub doneOf : List ℕ → Reading
-doneOf s = fits (eqb (length s) 1 && eqb (getD s 0 0) 0) (said m.Done)
+doneOf c = fits (eqb (length c) 1 && eqb (getD c 0 0) 0) (said m.Done)
 
 -- 00, lock byte if Option, a block of 1 to 32 bytes; places count in the frame
 unfoldable pub blockOf : Bool → List ℕ → Reading
-blockOf true s =
-    fits (leb 3 (length s) && (leb (length s) 34 && (eqb (getD s 0 0) 0 && leb (getD s 1 0) 1)))
-    (said (m.LockAndBlock (getD s 1 0) 2 (length s - 2)))
-blockOf false s = fits (leb 2 (length s) && (leb (length s) 33 && eqb (getD s 0 0) 0)) (said (m.Block 1 (length s - 1)))
+blockOf true c =
+    fits (leb 3 (length c) && (leb (length c) 34 && (eqb (getD c 0 0) 0 && leb (getD c 1 0) 1)))
+    (said (m.LockAndBlock (getD c 1 0) 2 (length c - 2)))
+blockOf false c = fits (leb 2 (length c) && (leb (length c) 33 && eqb (getD c 0 0) 0)) (said (m.Block 1 (length c - 1)))
 
 -- the UID of an addressed 2B is the target's
 abbrev pub owned : Target → List ℕ → List ℕ → Bool
@@ -77,51 +76,50 @@ owned One uid u = eqb (num u) (num uid)
 
 -- 00, 0F, UID, DSFID, AFI, blocks less 1, length less 1 (at most 31), IC reference
 unfoldable pub infoOf : Target → List ℕ → List ℕ → Reading
-infoOf to uid s =
-    fits (eqb (length s) 15 && (eqb (getD s 0 0) 0 && (eqb (getD s 1 0) 0x0F && (leb (getD s 13 0) 31 && owned to uid (part 2 8 s)))))
-    (saidOf (m.Info (getD s 10 0) (getD s 11 0) (getD s 12 0) (getD s 13 0) (getD s 14 0)) (part 2 8 s))
+infoOf to uid c =
+    fits (eqb (length c) 15 && (eqb (getD c 0 0) 0 && (eqb (getD c 1 0) 0x0F && (leb (getD c 13 0) 31 && owned to uid (part 2 8 c)))))
+    (saidOf (m.Info (getD c 10 0) (getD c 11 0) (getD c 12 0) (getD c 13 0) (getD c 14 0)) (part 2 8 c))
 
--- Stay quiet has no answer
+-- what a success of a task is
+unfoldable pub successOf : Target → Bool → Success → List ℕ → List ℕ → Reading
+successOf to option s.Never uid c = said (m.Refused 9)
+successOf to option s.Done uid c = doneOf c
+successOf to option s.Block uid c = blockOf option c
+successOf to option s.Info uid c = infoOf to uid c
+
+-- an error frame fits any label command that has an answer, save Inventory
 unfoldable pub labelReading : Target → Bool → Task → List ℕ → List ℕ → Reading
-labelReading to opt t.Quiet uid s = said (m.Refused 9)
-labelReading to opt (t.Read n) uid s = orError s (blockOf opt s)
-labelReading to opt (t.Write n) uid s = orError s (doneOf s)
-labelReading to opt (t.Lock n) uid s = orError s (doneOf s)
-labelReading to opt t.Select uid s = orError s (doneOf s)
-labelReading to opt t.Ready uid s = orError s (doneOf s)
-labelReading to opt (t.WriteAfi v) uid s = orError s (doneOf s)
-labelReading to opt t.LockAfi uid s = orError s (doneOf s)
-labelReading to opt (t.WriteDsfid v) uid s = orError s (doneOf s)
-labelReading to opt t.LockDsfid uid s = orError s (doneOf s)
-labelReading to opt t.Info uid s = orError s (infoOf to uid s)
+labelReading to option task uid c =
+    if answers (rowOf task .success) && isError c then said (m.Error (getD c 1 0))
+    else successOf to option (rowOf task .success) uid c
 
 -- 00, DSFID, UID, which ends in the mask sent
 unfoldable pub foundOf : ℕ → ℕ → List ℕ → Reading
-foundOf bits mask s = fits (eqb (length s) 10 && (eqb (getD s 0 0) 0 && endsIn (part 2 8 s) mask bits)) (saidOf (m.Found (getD s 1 0)) (part 2 8 s))
+foundOf bits mask c = fits (eqb (length c) 10 && (eqb (getD c 0 0) 0 && endsIn (part 2 8 c) mask bits)) (saidOf (m.Found (getD c 1 0)) (part 2 8 c))
 
 -- ---- chips
 
 unfoldable pub chipReading : ChipTask → List ℕ → Reading
-chipReading p.Initiate s = fits (eqb (length s) 1) (said (m.Id (getD s 0 0)))
-chipReading p.Pcall s = fits (eqb (length s) 1 && eqb (getD s 0 0 % 16) 0) (said (m.Id (getD s 0 0)))
-chipReading (p.Marker n) s = fits (eqb (length s) 1 && eqb (getD s 0 0 % 16) n) (said (m.Id (getD s 0 0)))
-chipReading (p.Select id) s = fits (eqb (length s) 1 && eqb (getD s 0 0) id) (said (m.Id (getD s 0 0)))
-chipReading p.Completion s = said (m.Refused 9)
-chipReading p.Reset s = said (m.Refused 9)
-chipReading (p.Read a) s = fits (eqb (length s) 4) (said (m.Word (num s)))
-chipReading p.Uid s = fits (eqb (length s) 8) (saidOf m.Uid s)
-chipReading (p.Write a) s = said (m.Refused 9)
+chipReading p.Initiate c = fits (eqb (length c) 1) (said (m.Id (getD c 0 0)))
+chipReading p.Pcall c = fits (eqb (length c) 1 && eqb (getD c 0 0 % 16) 0) (said (m.Id (getD c 0 0)))
+chipReading (p.Marker n) c = fits (eqb (length c) 1 && eqb (getD c 0 0 % 16) n) (said (m.Id (getD c 0 0)))
+chipReading (p.Select id) c = fits (eqb (length c) 1 && eqb (getD c 0 0) id) (said (m.Id (getD c 0 0)))
+chipReading p.Completion c = said (m.Refused 9)
+chipReading p.Reset c = said (m.Refused 9)
+chipReading (p.Read a) c = fits (eqb (length c) 4) (said (m.Word (num c)))
+chipReading p.Uid c = fits (eqb (length c) 8) (saidOf m.Uid c)
+chipReading (p.Write a) c = said (m.Refused 9)
 
 unfoldable pub shapeOf : Command → List ℕ → List ℕ → Reading
-shapeOf (Inventory to opt family sixteen bits mask) uid s = foundOf bits mask s
-shapeOf (Label to opt task) uid s = labelReading to opt task uid s
-shapeOf (Chip to opt task) uid s = chipReading task s
-shapeOf (Other kind code) uid s = said (m.Refused 9)
+shapeOf (Inventory to option family sixteen bits mask) uid c = foundOf bits mask c
+shapeOf (Label to option task p) uid c = labelReading to option task uid c
+shapeOf (Chip to option task) uid c = chipReading task c
+shapeOf (Other kind code) uid c = said (m.Refused 9)
 
 -- 7: no request has these fields; 8: fewer than 3 bytes, or CRC wrong; 9: CRC right, shape not one that the sent command allows
 unfoldable pub readingOf : Command → List ℕ → ℕ → List ℕ → Reading
-readingOf c uid n f =
-    if not (valid c n) then said (m.Refused 7)
+readingOf command uid n f =
+    if not (valid command n) then said (m.Refused 7)
     else if ltb (length f) 3 then said (m.Refused 8)
     else if not (right f) then said (m.Refused 8)
-    else shapeOf c uid (content f)
+    else shapeOf command uid (content f)

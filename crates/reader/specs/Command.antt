@@ -2,12 +2,13 @@
 use mathlib.Core.Bool.{Bool, true, false, not, _&&_, _||_}
 use Prim.Native.Nat.{ℕ, _^_}
 use lib.Dec.{eqb, ltb, leb}
-use Rattle.request.specs.Label.{most}
+use Rattle.request.specs.Table.{rowOf, optionFits}
+use Rattle.request.specs.Label.{most, targetFits}
+use Rattle.request.specs.declared.table.Task.{Task}
+use Rattle.request.specs.declared.table.Row.{Row}
 use Rattle.request.specs.declared.label.Target.{Target}
 use Rattle.request.specs.declared.label.Target.the-variants.{Everyone, Selected, One}
 use Rattle.request.specs.Chip.{listed}
-use Rattle.reader.specs.declared.command.Task.{Task}
-use Rattle.reader.specs.declared.command.Task.the-variants as t
 use Rattle.reader.specs.declared.command.ChipTask.{ChipTask}
 use Rattle.reader.specs.declared.command.ChipTask.the-variants as p
 use Rattle.reader.specs.declared.command.Command.{Command}
@@ -18,55 +19,13 @@ everyone Everyone = true
 everyone Selected = false
 everyone One = false
 
-abbrev pub one : Target → Bool
-one Everyone = false
-one Selected = false
-one One = true
-
--- Option is set on any but 20
-abbrev pub reads : Task → Bool
-reads t.Quiet = false
-reads (t.Read n) = true
-reads (t.Write n) = false
-reads (t.Lock n) = false
-reads t.Select = false
-reads t.Ready = false
-reads (t.WriteAfi v) = false
-reads t.LockAfi = false
-reads (t.WriteDsfid v) = false
-reads t.LockDsfid = false
-reads t.Info = false
-
--- 02 and 25 take one UID only
-abbrev pub names : Task → Bool
-names t.Quiet = true
-names (t.Read n) = false
-names (t.Write n) = false
-names (t.Lock n) = false
-names t.Select = true
-names t.Ready = false
-names (t.WriteAfi v) = false
-names t.LockAfi = false
-names (t.WriteDsfid v) = false
-names t.LockDsfid = false
-names t.Info = false
-
 -- data is 1 to 32 bytes; n is how many there are
-abbrev pub longest : Task → ℕ → Bool
-longest t.Quiet n = true
-longest (t.Read k) n = true
-longest (t.Write k) n = leb 1 n && leb n 32
-longest (t.Lock k) n = true
-longest t.Select n = true
-longest t.Ready n = true
-longest (t.WriteAfi v) n = true
-longest t.LockAfi n = true
-longest (t.WriteDsfid v) n = true
-longest t.LockDsfid n = true
-longest t.Info n = true
+abbrev pub dataFits : Row → ℕ → Bool
+dataFits row n = not (row .block) || (leb 1 n && leb n 32)
 
+-- Option where none is allowed, a target that the task does not take and data of another length have no request
 unfoldable pub labelFits : Target → Bool → Task → ℕ → Bool
-labelFits to opt task n = (not opt || reads task) && ((not (names task) || one to) && longest task n)
+labelFits to option task n = optionFits (rowOf task) option && (targetFits (rowOf task) to && dataFits (rowOf task) n)
 
 -- slot s is 1 to 15, an address is listed, data is 4 bytes
 unfoldable pub chipFits : ChipTask → ℕ → Bool
@@ -82,11 +41,11 @@ chipFits (p.Write a) n = eqb n 4 && listed a
 
 -- a mask is no longer than allowed and has no bits above its length
 unfoldable pub inventoryFits : Bool → ℕ → ℕ → Bool
-inventoryFits sixteen m mask = leb m (most sixteen) && ltb mask (2 ^ m)
+inventoryFits sixteen bits mask = leb bits (most sixteen) && ltb mask (2 ^ bits)
 
--- 01 and chip commands are for everyone only; a code not above has no request
+-- 01 and chip commands are for everyone only, without Option; a code not above has no request
 unfoldable pub valid : Command → ℕ → Bool
-valid (Inventory to opt family sixteen m mask) n = not opt && (everyone to && inventoryFits sixteen m mask)
-valid (Label to opt task) n = labelFits to opt task n
-valid (Chip to opt task) n = not opt && (everyone to && chipFits task n)
+valid (Inventory to option family sixteen bits mask) n = not option && (everyone to && inventoryFits sixteen bits mask)
+valid (Label to option task p) n = labelFits to option task n
+valid (Chip to option task) n = not option && (everyone to && chipFits task n)
 valid (Other kind code) n = false

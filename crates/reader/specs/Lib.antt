@@ -4,3 +4,5 @@ pub mod Request
 pub mod Answer
 pub mod Tags
 pub mod Plan
+pub mod Fields
+pub mod Told

@@ -1,9 +1,9 @@
 -- Document 01, "Reader's side": the bytes of a request, and what the writer leaves. Assumes nothing.
 use mathlib.Core.Bool.{Bool}
 use mathlib.Core.List.{List, [], _∷_, _++_}
-use Prim.Native.Nat.{ℕ, _+_, _*_}
+use Prim.Native.Nat.{ℕ, _+_, _-_, _*_}
 use lib.Dec.{eqb, ltb}
-use lib.ListN.{length, drop, replicate}
+use lib.ListN.{length, getD, take, drop, replicate}
 use Rattle.frame.specs.Choose.{if_then_else_}
 use Rattle.frame.specs.Number.{num, bytesOf}
 use Rattle.frame.specs.CheckSum.{framed}
@@ -12,14 +12,13 @@ use Rattle.request.specs.declared.label.Target.{Target}
 use Rattle.request.specs.declared.label.Target.the-variants.{Everyone, Selected, One}
 use Rattle.request.specs.declared.label.Family.{Family}
 use Rattle.request.specs.declared.label.Family.the-variants.{Any, Only}
-use Rattle.request.specs.declared.label.Order.{Order}
-use Rattle.request.specs.declared.label.Order.the-variants as o
-use Rattle.request.specs.declared.label.Call.the-variants as k
+use Rattle.request.specs.Table.{rowOf}
+use Rattle.request.specs.declared.table.Task.{Task}
+use Rattle.request.specs.declared.table.Row.{Row}
+use Rattle.request.specs.declared.label.Call.the-variants.{Do}
 use Rattle.request.specs.declared.label.Request as asked
-use Rattle.request.specs.declared.chip.Order as chip
-use Rattle.request.specs.declared.chip.Order.the-variants as c
-use Rattle.reader.specs.declared.command.Task.{Task}
-use Rattle.reader.specs.declared.command.Task.the-variants as t
+use Rattle.request.specs.declared.chip.Order.{Order}
+use Rattle.request.specs.declared.chip.Order.the-variants as o
 use Rattle.reader.specs.declared.command.ChipTask.{ChipTask}
 use Rattle.reader.specs.declared.command.ChipTask.the-variants as p
 use Rattle.reader.specs.declared.command.Command.{Command}
@@ -40,32 +39,12 @@ uidPart Everyone uid = []
 uidPart Selected uid = []
 uidPart One uid = uid
 
--- a task's code, and its parameters
-abbrev pub code : Task → ℕ
-code t.Quiet = 0x02
-code (t.Read n) = 0x20
-code (t.Write n) = 0x21
-code (t.Lock n) = 0x22
-code t.Select = 0x25
-code t.Ready = 0x26
-code (t.WriteAfi v) = 0x27
-code t.LockAfi = 0x28
-code (t.WriteDsfid v) = 0x29
-code t.LockDsfid = 0x2A
-code t.Info = 0x2B
+-- the parameter that a task has beside its flags and code; then a block's data
+abbrev pub parameter : Row → ℕ → List ℕ
+parameter row p = take (row .len - 4) (p ∷ [])
 
-abbrev pub params : Task → List ℕ → List ℕ
-params t.Quiet d = []
-params (t.Read n) d = n ∷ []
-params (t.Write n) d = n ∷ d
-params (t.Lock n) d = n ∷ []
-params t.Select d = []
-params t.Ready d = []
-params (t.WriteAfi v) d = v ∷ []
-params t.LockAfi d = []
-params (t.WriteDsfid v) d = v ∷ []
-params t.LockDsfid d = []
-params t.Info d = []
+abbrev pub params : Row → ℕ → List ℕ → List ℕ
+params row p d = parameter row p ++ (if row .block then d else [])
 
 abbrev pub chipBytes : ChipTask → List ℕ → List ℕ
 chipBytes p.Initiate d = 0x06 ∷ 0x00 ∷ []
@@ -80,13 +59,17 @@ chipBytes (p.Write a) d = 0x09 ∷ a ∷ d
 
 -- bit 2 Inventory, bit 4 an AFI follows, bit 5 one slot
 abbrev pub inventoryBytes : Family → Bool → ℕ → ℕ → List ℕ
-inventoryBytes Any sixteen m mask = (6 + (if sixteen then 0 else 32)) ∷ 1 ∷ m ∷ bytesOf (bytesFor m) mask
-inventoryBytes (Only afi) sixteen m mask = (22 + (if sixteen then 0 else 32)) ∷ 1 ∷ afi ∷ m ∷ bytesOf (bytesFor m) mask
+inventoryBytes Any sixteen bits mask = (6 + (if sixteen then 0 else 32)) ∷ 1 ∷ bits ∷ bytesOf (bytesFor bits) mask
+inventoryBytes (Only afi) sixteen bits mask = (22 + (if sixteen then 0 else 32)) ∷ 1 ∷ afi ∷ bits ∷ bytesOf (bytesFor bits) mask
+
+-- bit 6 Option
+abbrev pub flags : Target → Bool → ℕ
+flags to option = 2 + mode to + (if option then 64 else 0)
 
 unfoldable pub content : Command → List ℕ → List ℕ → List ℕ
-content (Inventory to opt family sixteen m mask) uid d = inventoryBytes family sixteen m mask
-content (Label to opt task) uid d = (2 + mode to + (if opt then 64 else 0)) ∷ code task ∷ (uidPart to uid ++ params task d)
-content (Chip to opt task) uid d = chipBytes task d
+content (Inventory to option family sixteen bits mask) uid d = inventoryBytes family sixteen bits mask
+content (Label to option task p) uid d = flags to option ∷ rowOf task .code ∷ (uidPart to uid ++ params (rowOf task) p d)
+content (Chip to option task) uid d = chipBytes task d
 content (Other kind code) uid d = []
 
 unfoldable pub encode : Command → List ℕ → List ℕ → List ℕ
@@ -94,9 +77,13 @@ encode c uid d = framed (content c uid d)
 
 -- ---- the call
 
+-- the room that every output buffer has
+abbrev pub least : ℕ
+least = 64
+
 -- 3: output buffer under 64 bytes; 7: no request has these fields
 unfoldable pub refusalOf : Command → ℕ → ℕ → ℕ
-refusalOf c n room = if ltb room 64 then 3 else if valid c n then 0 else 7
+refusalOf c n room = if ltb room least then 3 else if valid c n then 0 else 7
 
 unfoldable pub writtenOf : Command → List ℕ → List ℕ → List ℕ → Written
 writtenOf c uid d out =
@@ -111,34 +98,22 @@ outOf c uid d out =
 
 -- ---- what it means to the tags
 
-unfoldable pub orderOf : Task → Bool → Order
-orderOf t.Quiet opt = o.Quiet
-orderOf (t.Read n) opt = o.Read n opt
-orderOf (t.Write n) opt = o.Write n opt
-orderOf (t.Lock n) opt = o.Lock n
-orderOf t.Select opt = o.Select
-orderOf t.Ready opt = o.Ready
-orderOf (t.WriteAfi v) opt = o.WriteAfi v
-orderOf t.LockAfi opt = o.LockAfi
-orderOf (t.WriteDsfid v) opt = o.WriteDsfid v
-orderOf t.LockDsfid opt = o.LockDsfid
-orderOf t.Info opt = o.Info
-
 abbrev pub uidMeant : Target → List ℕ → List ℕ
 uidMeant Everyone uid = replicate 8 0
 uidMeant Selected uid = replicate 8 0
 uidMeant One uid = uid
 
-unfoldable pub labelMeant : Target → Bool → Task → List ℕ → asked.Request
-labelMeant to opt task uid = record { uid = uidMeant to uid; call = k.Ask to (orderOf task opt) }
+-- a task without a parameter is taken with 0
+unfoldable pub labelMeant : Target → Bool → Task → ℕ → List ℕ → asked.Request
+labelMeant to option task p uid = record { uid = uidMeant to uid; call = Do to task (getD (parameter (rowOf task) p) 0 0) option }
 
-unfoldable pub chipMeant : ChipTask → List ℕ → chip.Order
-chipMeant p.Initiate d = c.Initiate
-chipMeant p.Pcall d = c.Pcall
-chipMeant (p.Marker s) d = c.Marker s
-chipMeant (p.Select id) d = c.Select id
-chipMeant p.Completion d = c.Completion
-chipMeant p.Reset d = c.Reset
-chipMeant (p.Read a) d = c.Read a
-chipMeant p.Uid d = c.Uid
-chipMeant (p.Write a) d = c.Write a (num d)
+unfoldable pub chipMeant : ChipTask → List ℕ → Order
+chipMeant p.Initiate d = o.Initiate
+chipMeant p.Pcall d = o.Pcall
+chipMeant (p.Marker s) d = o.Marker s
+chipMeant (p.Select id) d = o.Select id
+chipMeant p.Completion d = o.Completion
+chipMeant p.Reset d = o.Reset
+chipMeant (p.Read a) d = o.Read a
+chipMeant p.Uid d = o.Uid
+chipMeant (p.Write a) d = o.Write a (num d)

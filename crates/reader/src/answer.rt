@@ -1,7 +1,6 @@
 // The answer reader.
 use crate::command::ChipTask;
 use crate::command::Command;
-use crate::command::Task;
 use crate::command::is_valid;
 use frame::check_sum::is_right;
 use frame::number::byte_at;
@@ -10,13 +9,17 @@ use frame::uid::ends_in;
 use frame::uid::same_uid;
 use frame::uid::uid_at;
 use request::label::Target;
+use request::table::Success;
+use request::table::Task;
+use request::table::has_answer;
+use request::table::row_of;
 ghost use mathlib.Core.Path.{_≡_};
 ghost use mathlib.Core.Bool.{true, false, _&&_};
 ghost use lib.Dec.{eqb, leb};
+ghost use Rattle.request.specs.Table.{answers};
 ghost use Rattle.reader.specs.declared.command.ChipTask.the-variants.{Initiate, Marker, Select, Read, Uid};
 ghost use Rattle.reader.specs.declared.answer.Meaning.the-variants.{Refused};
-ghost use Rattle.reader.specs.Answer.{said, saidOf, errorCode, isError, doneOf, blockOf, owned, infoOf, labelReading, foundOf, chipReading, shapeOf, readingOf};
-ghost use Rattle.reader.specs.Plan.{hasAnswer, successOf};
+ghost use Rattle.reader.specs.Answer.{said, saidOf, errorCode, isError, doneOf, blockOf, owned, infoOf, successOf, labelReading, foundOf, chipReading, shapeOf, readingOf};
 
 // What an answer means. UIDs stand beside the meaning; of a block the place of its bytes in the frame and how many there are.
 pub enum Meaning {
@@ -69,88 +72,88 @@ fn refused(n: u8) -> Reading
 }
 
 // Whether a byte is an error's code.
-fn is_code(e: u8) -> bool
-    ensures { λ r. ⌜ r ≡ errorCode e ⌝ }
+fn is_code(code: u8) -> bool
+    ensures { λ r. ⌜ r ≡ errorCode code ⌝ }
 {
-    if e < 1 {
+    if code < 1 {
         return false;
     }
-    if e <= 3 {
+    if code <= 3 {
         return true;
     }
-    if e < 0x10 {
+    if code < 0x10 {
         return false;
     }
-    e <= 0x12
+    code <= 0x12
 }
 
-// Whether s, without its check sum, is a label's error.
-fn is_error(s: &[u8]) -> bool
-    ensures { λ r. ⌜ r ≡ isError (now (s .entry)) ⌝ }
+// Whether c, a frame's content without its check sum, is a label's error.
+fn is_error(c: &[u8]) -> bool
+    ensures { λ r. ⌜ r ≡ isError (now (c .entry)) ⌝ }
 {
-    if s.len() != 2 {
+    if c.len() != 2 {
         return false;
     }
-    if s[0] != 1 {
+    if c[0] != 1 {
         return false;
     }
-    is_code(s[1])
+    is_code(c[1])
 }
 
-fn done(s: &[u8]) -> Reading
-    ensures { λ r. ⌜ r ≡ doneOf (now (s .entry)) ⌝ }
+fn done(c: &[u8]) -> Reading
+    ensures { λ r. ⌜ r ≡ doneOf (now (c .entry)) ⌝ }
 {
-    if s.len() != 1 {
+    if c.len() != 1 {
         return refused(9);
     }
-    if s[0] != 0 {
+    if c[0] != 0 {
         return refused(9);
     }
     plain(Meaning::Done)
 }
 
 // 00, lock byte, a block of 1 to 32 bytes.
-fn locked_block(s: &[u8]) -> Reading
-    ensures { λ r. ⌜ r ≡ blockOf true (now (s .entry)) ⌝ }
+fn locked_block(c: &[u8]) -> Reading
+    ensures { λ r. ⌜ r ≡ blockOf true (now (c .entry)) ⌝ }
 {
-    if s.len() < 3 {
+    if c.len() < 3 {
         return refused(9);
     }
-    if 34 < s.len() {
+    if 34 < c.len() {
         return refused(9);
     }
-    if s[0] != 0 {
+    if c[0] != 0 {
         return refused(9);
     }
-    if 1 < s[1] {
+    if 1 < c[1] {
         return refused(9);
     }
-    plain(Meaning::LockAndBlock(s[1], 2, s.len() - 2))
+    plain(Meaning::LockAndBlock(c[1], 2, c.len() - 2))
 }
 
 // 00, a block of 1 to 32 bytes.
-fn plain_block(s: &[u8]) -> Reading
-    ensures { λ r. ⌜ r ≡ blockOf false (now (s .entry)) ⌝ }
+fn plain_block(c: &[u8]) -> Reading
+    ensures { λ r. ⌜ r ≡ blockOf false (now (c .entry)) ⌝ }
 {
-    if s.len() < 2 {
+    if c.len() < 2 {
         return refused(9);
     }
-    if 33 < s.len() {
+    if 33 < c.len() {
         return refused(9);
     }
-    if s[0] != 0 {
+    if c[0] != 0 {
         return refused(9);
     }
-    plain(Meaning::Block(1, s.len() - 1))
+    plain(Meaning::Block(1, c.len() - 1))
 }
 
-fn block(option: bool, s: &[u8]) -> Reading
-    ensures { λ r. ⌜ r ≡ blockOf option (now (s .entry)) ⌝ }
+fn block(option: bool, c: &[u8]) -> Reading
+    ensures { λ r. ⌜ r ≡ blockOf option (now (c .entry)) ⌝ }
 {
     if option {
-        return locked_block(s);
+        return locked_block(c);
     }
-    plain_block(s)
+    plain_block(c)
 }
 
 // Whether a UID read is the target's, where the target is one UID.
@@ -180,175 +183,158 @@ fn info_fits(a: u8, b: u8, size: u8, own: bool) -> bool
     own
 }
 
-fn info(to: Target, uid: [u8; 8], s: &[u8]) -> Reading
-    ensures { λ r. ⌜ r ≡ infoOf to uid (now (s .entry)) ⌝ }
+fn info(to: Target, uid: [u8; 8], c: &[u8]) -> Reading
+    ensures { λ r. ⌜ r ≡ infoOf to uid (now (c .entry)) ⌝ }
 {
-    if s.len() != 15 {
+    if c.len() != 15 {
         return refused(9);
     }
-    let u = uid_at(s, 2);
-    if !info_fits(s[0], s[1], s[13], owns(to, uid, u)) {
+    let u = uid_at(c, 2);
+    if !info_fits(c[0], c[1], c[13], owns(to, uid, u)) {
         return refused(9);
     }
-    with_uid(Meaning::Info(s[10], s[11], s[12], s[13], s[14]), u)
+    with_uid(Meaning::Info(c[10], c[11], c[12], c[13], c[14]), u)
 }
 
-// Whether a task has an answer: all but Stay quiet.
-fn has_answer(task: Task) -> bool
-    ensures { λ r. ⌜ r ≡ hasAnswer task ⌝ }
+// What c, which is no error, means where a success is of this kind.
+fn success_in(to: Target, option: bool, success: Success, uid: [u8; 8], c: &[u8]) -> Reading
+    ensures { λ r. ⌜ r ≡ successOf to option success uid (now (c .entry)) ⌝ }
 {
-    match task {
-        Task::Quiet => false,
-        Task::Read(_) => true,
-        Task::Write(_) => true,
-        Task::Lock(_) => true,
-        Task::Select => true,
-        Task::Ready => true,
-        Task::WriteAfi(_) => true,
-        Task::LockAfi => true,
-        Task::WriteDsfid(_) => true,
-        Task::LockDsfid => true,
-        Task::Info => true,
+    match success {
+        Success::Never => refused(9),
+        Success::Done => done(c),
+        Success::Block => block(option, c),
+        Success::Info => info(to, uid, c),
     }
 }
 
-// What s, which is no error, means to a task.
-fn success(to: Target, option: bool, task: Task, uid: [u8; 8], s: &[u8]) -> Reading
-    ensures { λ r. ⌜ r ≡ successOf to option task uid (now (s .entry)) ⌝ }
+// Whether c is an error that a task can answer with.
+fn errs(success: Success, c: &[u8]) -> bool
+    ensures { λ r. ⌜ r ≡ answers success && isError (now (c .entry)) ⌝ }
 {
-    match task {
-        Task::Quiet => refused(9),
-        Task::Read(_) => block(option, s),
-        Task::Write(_) => done(s),
-        Task::Lock(_) => done(s),
-        Task::Select => done(s),
-        Task::Ready => done(s),
-        Task::WriteAfi(_) => done(s),
-        Task::LockAfi => done(s),
-        Task::WriteDsfid(_) => done(s),
-        Task::LockDsfid => done(s),
-        Task::Info => info(to, uid, s),
+    if has_answer(success) {
+        return is_error(c);
     }
+    false
 }
 
-fn label_reading(to: Target, option: bool, task: Task, uid: [u8; 8], s: &[u8]) -> Reading
-    ensures { λ r. ⌜ r ≡ labelReading to option task uid (now (s .entry)) ⌝ }
+fn label_reading(to: Target, option: bool, task: Task, uid: [u8; 8], c: &[u8]) -> Reading
+    ensures { λ r. ⌜ r ≡ labelReading to option task uid (now (c .entry)) ⌝ }
 {
-    if !has_answer(task) {
-        return refused(9);
+    let row = row_of(task);
+    let success = row.success;
+    if errs(success, c) {
+        return plain(Meaning::Error(byte_at(c, 1)));
     }
-    if is_error(s) {
-        return plain(Meaning::Error(byte_at(s, 1)));
-    }
-    success(to, option, task, uid, s)
+    success_in(to, option, success, uid, c)
 }
 
 // 00, DSFID, a UID that ends in the mask sent. Never an error.
-fn found(m: u8, mask: u64, s: &[u8]) -> Reading
-    ensures { λ r. ⌜ r ≡ foundOf m mask (now (s .entry)) ⌝ }
+fn found(bits: u8, mask: u64, c: &[u8]) -> Reading
+    ensures { λ r. ⌜ r ≡ foundOf bits mask (now (c .entry)) ⌝ }
 {
-    if s.len() != 10 {
+    if c.len() != 10 {
         return refused(9);
     }
-    if s[0] != 0 {
+    if c[0] != 0 {
         return refused(9);
     }
-    let u = uid_at(s, 2);
-    if !ends_in(u, mask, m as u32) {
+    let u = uid_at(c, 2);
+    if !ends_in(u, mask, bits as u32) {
         return refused(9);
     }
-    with_uid(Meaning::Found(s[1]), u)
+    with_uid(Meaning::Found(c[1]), u)
 }
 
 // A Chip_ID.
-fn any_id(s: &[u8]) -> Reading
-    ensures { λ r. ⌜ r ≡ chipReading Initiate (now (s .entry)) ⌝ }
+fn any_id(c: &[u8]) -> Reading
+    ensures { λ r. ⌜ r ≡ chipReading Initiate (now (c .entry)) ⌝ }
 {
-    if s.len() != 1 {
+    if c.len() != 1 {
         return refused(9);
     }
-    plain(Meaning::Id(s[0]))
+    plain(Meaning::Id(c[0]))
 }
 
 // A Chip_ID whose low four bits are n.
-fn slot_id(n: u8, s: &[u8]) -> Reading
-    ensures { λ r. ⌜ r ≡ chipReading (Marker n) (now (s .entry)) ⌝ }
+fn slot_id(n: u8, c: &[u8]) -> Reading
+    ensures { λ r. ⌜ r ≡ chipReading (Marker n) (now (c .entry)) ⌝ }
 {
-    if s.len() != 1 {
+    if c.len() != 1 {
         return refused(9);
     }
-    if s[0] % 16 != n {
+    if c[0] % 16 != n {
         return refused(9);
     }
-    plain(Meaning::Id(s[0]))
+    plain(Meaning::Id(c[0]))
 }
 
 // One Chip_ID.
-fn this_id(id: u8, s: &[u8]) -> Reading
-    ensures { λ r. ⌜ r ≡ chipReading (Select id) (now (s .entry)) ⌝ }
+fn this_id(id: u8, c: &[u8]) -> Reading
+    ensures { λ r. ⌜ r ≡ chipReading (Select id) (now (c .entry)) ⌝ }
 {
-    if s.len() != 1 {
+    if c.len() != 1 {
         return refused(9);
     }
-    if s[0] != id {
+    if c[0] != id {
         return refused(9);
     }
-    plain(Meaning::Id(s[0]))
+    plain(Meaning::Id(c[0]))
 }
 
 // A chip's block.
-fn word(s: &[u8]) -> Reading
-    ensures { λ r. ⌜ r ≡ chipReading (Read 0) (now (s .entry)) ⌝ }
+fn word(c: &[u8]) -> Reading
+    ensures { λ r. ⌜ r ≡ chipReading (Read 0) (now (c .entry)) ⌝ }
 {
-    if s.len() != 4 {
+    if c.len() != 4 {
         return refused(9);
     }
-    plain(Meaning::Word(number_of(s) as u32))
+    plain(Meaning::Word(number_of(c) as u32))
 }
 
 // A chip's UID.
-fn chip_uid(s: &[u8]) -> Reading
-    ensures { λ r. ⌜ r ≡ chipReading Uid (now (s .entry)) ⌝ }
+fn chip_uid(c: &[u8]) -> Reading
+    ensures { λ r. ⌜ r ≡ chipReading Uid (now (c .entry)) ⌝ }
 {
-    if s.len() != 8 {
+    if c.len() != 8 {
         return refused(9);
     }
-    with_uid(Meaning::Uid, uid_at(s, 0))
+    with_uid(Meaning::Uid, uid_at(c, 0))
 }
 
-fn chip_reading(task: ChipTask, s: &[u8]) -> Reading
-    ensures { λ r. ⌜ r ≡ chipReading task (now (s .entry)) ⌝ }
+fn chip_reading(task: ChipTask, c: &[u8]) -> Reading
+    ensures { λ r. ⌜ r ≡ chipReading task (now (c .entry)) ⌝ }
 {
     match task {
-        ChipTask::Initiate => any_id(s),
-        ChipTask::Pcall => slot_id(0, s),
-        ChipTask::Marker(n) => slot_id(n, s),
-        ChipTask::Select(id) => this_id(id, s),
+        ChipTask::Initiate => any_id(c),
+        ChipTask::Pcall => slot_id(0, c),
+        ChipTask::Marker(n) => slot_id(n, c),
+        ChipTask::Select(id) => this_id(id, c),
         ChipTask::Completion => refused(9),
         ChipTask::Reset => refused(9),
-        ChipTask::Read(_) => word(s),
-        ChipTask::Uid => chip_uid(s),
+        ChipTask::Read(_) => word(c),
+        ChipTask::Uid => chip_uid(c),
         ChipTask::Write(_) => refused(9),
     }
 }
 
 // What a frame's bytes before its check sum mean to a command.
-fn shape(c: Command, uid: [u8; 8], s: &[u8]) -> Reading
-    ensures { λ r. ⌜ r ≡ shapeOf c uid (now (s .entry)) ⌝ }
+fn shape(command: Command, uid: [u8; 8], c: &[u8]) -> Reading
+    ensures { λ r. ⌜ r ≡ shapeOf command uid (now (c .entry)) ⌝ }
 {
-    match c {
-        Command::Inventory(_, _, _, _, m, mask) => found(m, mask, s),
-        Command::Label(to, option, task) => label_reading(to, option, task, uid, s),
-        Command::Chip(_, _, task) => chip_reading(task, s),
+    match command {
+        Command::Inventory(_, _, _, _, bits, mask) => found(bits, mask, c),
+        Command::Label(to, option, task, _) => label_reading(to, option, task, uid, c),
+        Command::Chip(_, _, task) => chip_reading(task, c),
         Command::Other(_, _) => refused(9),
     }
 }
 
-// What frame means to c, sent for uid where c is for one UID, with n bytes of data.
-pub fn read_answer(c: Command, uid: [u8; 8], n: usize, frame: &[u8]) -> Reading
-    ensures { λ r. ⌜ r ≡ readingOf c uid n (now (frame .entry)) ⌝ }
+// What frame means to a command, sent for uid where it is for one UID, with n bytes of data.
+pub fn read_answer(command: Command, uid: [u8; 8], n: usize, frame: &[u8]) -> Reading
+    ensures { λ r. ⌜ r ≡ readingOf command uid n (now (frame .entry)) ⌝ }
 {
-    if !is_valid(c, n) {
+    if !is_valid(command, n) {
         return refused(7);
     }
     if frame.len() < 3 {
@@ -358,5 +344,5 @@ pub fn read_answer(c: Command, uid: [u8; 8], n: usize, frame: &[u8]) -> Reading
         return refused(8);
     }
     let m = frame.len() - 2;
-    shape(c, uid, &frame[0..m])
+    shape(command, uid, &frame[0..m])
 }

@@ -3,27 +3,19 @@ use frame::uid::low_bits;
 use request::chip::is_listed;
 use request::label::Family;
 use request::label::Target;
+use request::label::most_bits;
+use request::label::target_fits;
+use request::table::Row;
+use request::table::Task;
+use request::table::option_fits;
+use request::table::row_of;
 ghost use mathlib.Core.Path.{_≡_};
 ghost use mathlib.Core.Bool.{not, _&&_};
 ghost use lib.Dec.{eqb, leb};
-ghost use Rattle.request.specs.Label.{most};
+ghost use Rattle.request.specs.Table.{optionFits};
+ghost use Rattle.request.specs.Label.{targetFits};
 ghost use Rattle.request.specs.Chip.{listed};
-ghost use Rattle.reader.specs.Command.{everyone, one, reads, names, longest, labelFits, chipFits, inventoryFits, valid};
-
-// What a label is asked beside an Inventory. A write's bytes stand beside the command.
-pub enum Task {
-    Quiet,
-    Read(u8),
-    Write(u8),
-    Lock(u8),
-    Select,
-    Ready,
-    WriteAfi(u8),
-    LockAfi,
-    WriteDsfid(u8),
-    LockDsfid,
-    Info,
-}
+ghost use Rattle.reader.specs.Command.{everyone, dataFits, labelFits, chipFits, inventoryFits, valid};
 
 // What a chip is asked. A write's four bytes stand beside the command.
 pub enum ChipTask {
@@ -42,7 +34,8 @@ pub enum ChipTask {
 pub enum Command {
     // Family, whether sixteen slots, mask length, mask.
     Inventory(Target, bool, Family, bool, u8, u64),
-    Label(Target, bool, Task),
+    // A task and its parameter, where it has one. A write's bytes stand beside the command.
+    Label(Target, bool, Task, u8),
     Chip(Target, bool, ChipTask),
     // A kind or code that is none of these.
     Other(u8, u8),
@@ -58,54 +51,6 @@ pub fn is_everyone(to: Target) -> bool
     }
 }
 
-pub fn is_one(to: Target) -> bool
-    ensures { λ r. ⌜ r ≡ one to ⌝ }
-{
-    match to {
-        Target::Everyone => false,
-        Target::Selected => false,
-        Target::One => true,
-    }
-}
-
-// Whether a task may have Option: 20 alone.
-fn may_option(task: Task) -> bool
-    ensures { λ r. ⌜ r ≡ reads task ⌝ }
-{
-    match task {
-        Task::Quiet => false,
-        Task::Read(_) => true,
-        Task::Write(_) => false,
-        Task::Lock(_) => false,
-        Task::Select => false,
-        Task::Ready => false,
-        Task::WriteAfi(_) => false,
-        Task::LockAfi => false,
-        Task::WriteDsfid(_) => false,
-        Task::LockDsfid => false,
-        Task::Info => false,
-    }
-}
-
-// Whether a task takes one UID only: 02 and 25.
-fn must_name(task: Task) -> bool
-    ensures { λ r. ⌜ r ≡ names task ⌝ }
-{
-    match task {
-        Task::Quiet => true,
-        Task::Read(_) => false,
-        Task::Write(_) => false,
-        Task::Lock(_) => false,
-        Task::Select => true,
-        Task::Ready => false,
-        Task::WriteAfi(_) => false,
-        Task::LockAfi => false,
-        Task::WriteDsfid(_) => false,
-        Task::LockDsfid => false,
-        Task::Info => false,
-    }
-}
-
 // Whether a block of so many bytes can be sent: 1 to 32.
 fn block_fits(n: usize) -> bool
     ensures { λ r. ⌜ r ≡ leb 1 n && leb n 32 ⌝ }
@@ -116,35 +61,32 @@ fn block_fits(n: usize) -> bool
     n <= 32
 }
 
-// Whether so many bytes of data are right for a task: only a write looks at them.
-fn data_fits(task: Task, n: usize) -> bool
-    ensures { λ r. ⌜ r ≡ longest task n ⌝ }
+// Whether so many bytes of data are right for a task: only a block's are looked at.
+fn data_fits(row: Row, n: usize) -> bool
+    ensures { λ r. ⌜ r ≡ dataFits row n ⌝ }
 {
-    match task {
-        Task::Quiet => true,
-        Task::Read(_) => true,
-        Task::Write(_) => block_fits(n),
-        Task::Lock(_) => true,
-        Task::Select => true,
-        Task::Ready => true,
-        Task::WriteAfi(_) => true,
-        Task::LockAfi => true,
-        Task::WriteDsfid(_) => true,
-        Task::LockDsfid => true,
-        Task::Info => true,
+    if row.block {
+        return block_fits(n);
     }
+    true
+}
+
+fn row_fits(row: Row, to: Target, option: bool, n: usize) -> bool
+    ensures { λ r. ⌜ r ≡ optionFits row option && (targetFits row to && dataFits row n) ⌝ }
+{
+    if !option_fits(row, option) {
+        return false;
+    }
+    if !target_fits(row, to) {
+        return false;
+    }
+    data_fits(row, n)
 }
 
 fn label_fits(to: Target, option: bool, task: Task, n: usize) -> bool
     ensures { λ r. ⌜ r ≡ labelFits to option task n ⌝ }
 {
-    if option {
-        return may_option(task);
-    }
-    if must_name(task) {
-        return is_one(to);
-    }
-    data_fits(task, n)
+    row_fits(row_of(task), to, option, n)
 }
 
 // Whether a slot marker has this slot: 1 to 15.
@@ -196,35 +138,25 @@ fn chip_fits(to: Target, option: bool, task: ChipTask, n: usize) -> bool
     false
 }
 
-// The longest mask.
-fn most_bits(sixteen: bool) -> u8
-    ensures { λ r. ⌜ r ≡ most sixteen ⌝ }
-{
-    if sixteen {
-        return 60;
-    }
-    64
-}
-
 // Whether a mask is no longer than allowed and has no bits above its length.
-fn mask_fits(sixteen: bool, m: u8, mask: u64) -> bool
-    ensures { λ r. ⌜ r ≡ inventoryFits sixteen m mask ⌝ }
+fn mask_fits(sixteen: bool, bits: u8, mask: u64) -> bool
+    ensures { λ r. ⌜ r ≡ inventoryFits sixteen bits mask ⌝ }
 {
-    if most_bits(sixteen) < m {
+    if most_bits(sixteen) < bits {
         return false;
     }
-    low_bits(mask, m as u32) == mask
+    low_bits(mask, bits as u32) == mask
 }
 
 // An Inventory is for everyone, without Option.
-fn inventory_fits(to: Target, option: bool, sixteen: bool, m: u8, mask: u64) -> bool
-    ensures { λ r. ⌜ r ≡ not option && (everyone to && inventoryFits sixteen m mask) ⌝ }
+fn inventory_fits(to: Target, option: bool, sixteen: bool, bits: u8, mask: u64) -> bool
+    ensures { λ r. ⌜ r ≡ not option && (everyone to && inventoryFits sixteen bits mask) ⌝ }
 {
     if option {
         return false;
     }
     if is_everyone(to) {
-        return mask_fits(sixteen, m, mask);
+        return mask_fits(sixteen, bits, mask);
     }
     false
 }
@@ -234,10 +166,10 @@ pub fn is_valid(c: Command, n: usize) -> bool
     ensures { λ r. ⌜ r ≡ valid c n ⌝ }
 {
     match c {
-        Command::Inventory(to, option, _, sixteen, m, mask) => {
-            inventory_fits(to, option, sixteen, m, mask)
+        Command::Inventory(to, option, _, sixteen, bits, mask) => {
+            inventory_fits(to, option, sixteen, bits, mask)
         }
-        Command::Label(to, option, task) => label_fits(to, option, task, n),
+        Command::Label(to, option, task, _) => label_fits(to, option, task, n),
         Command::Chip(to, option, task) => chip_fits(to, option, task, n),
         Command::Other(_, _) => false,
     }

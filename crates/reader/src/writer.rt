@@ -1,7 +1,6 @@
 // The request writer.
 use crate::command::ChipTask;
 use crate::command::Command;
-use crate::command::Task;
 use crate::command::is_valid;
 use frame::check_sum::seal;
 use frame::number::wide;
@@ -9,6 +8,8 @@ use frame::put::put_bytes;
 use frame::put::put_number;
 use request::label::Family;
 use request::label::Target;
+use request::table::Row;
+use request::table::row_of;
 ghost use mathlib.Core.Path.{_≡_};
 ghost use mathlib.Core.List.{_++_};
 ghost use Prim.Native.Nat.{_+_, _*_, _≤_, _<_};
@@ -16,8 +17,11 @@ ghost use lib.ListN.{length, drop};
 ghost use Rattle.frame.specs.Choose.{if_then_else_};
 ghost use Rattle.frame.specs.CheckSum.{framed};
 ghost use Rattle.frame.specs.Ending.{bytesFor};
-ghost use Rattle.reader.specs.Request.{mode, writtenOf, outOf};
-ghost use Rattle.reader.specs.Plan.{partsOf, uidCount, labelPlan, shortPlan, maskPlan, inventoryPlan, taskPlan, chipPlan, planOf, RangedFamily, RangedTask, RangedChip, Ranged, Small};
+ghost use Rattle.reader.specs.Request.{mode, flags, writtenOf, outOf};
+ghost use Rattle.reader.specs.Plan.{partsOf, uidCount, labelPlan, shortPlan, maskPlan, inventoryPlan, chipPlan, planOf, RangedFamily, RangedChip, Ranged, PlanFits};
+
+// The room that every output buffer has.
+const LEAST: usize = 64;
 
 // What the writer comes back with: the refusal's number or 0, and the request's length.
 #[repr(C)]
@@ -79,47 +83,47 @@ fn slot_flag(sixteen: bool) -> u64
     32
 }
 
-// Flags, code and the UID where one is named; then pars bytes of par, and n of data.
-fn label_plan(to: Target, option: bool, code: u8, par: u8, pars: usize, n: usize) -> Plan
-    ensures { λ r. ⌜ (r ≡ labelPlan to option code par pars n) × (par < 256) ⌝ }
+// Bit 1 is set, and the flags of a target and of Option.
+fn flags_of(to: Target, option: bool) -> u64
+    ensures { λ r. ⌜ (r ≡ flags to option) × (r ≤ 98) ⌝ }
+{
+    2 + mode_of(to) + option_flag(option)
+}
+
+// How many bytes of data go with a row.
+fn data_count(row: Row, n: usize) -> usize
+    ensures { λ r. ⌜ r ≡ (if row .block then n else 0) ⌝ }
+{
+    if row.block {
+        return n;
+    }
+    0
+}
+
+// Flags, code and the UID where one is named; then the parameter p where the row has one, and n of data.
+fn label_plan(to: Target, option: bool, row: Row, p: u8, n: usize) -> Plan
+    requires { ⌜ 4 ≤ row .len ⌝ }
+    ensures { λ r. ⌜ (r ≡ labelPlan to option row p n) × (p < 256) ⌝ }
 {
     Plan {
-        head: 2 + mode_of(to) + option_flag(option) + 256 * wide(code),
+        head: flags_of(to, option) + 256 * wide(row.code),
         heads: 2,
         uids: uid_count(to),
-        par: wide(par),
-        pars: pars,
+        par: wide(p),
+        pars: row.len as usize - 4,
         mask: 0,
         masks: 0,
-        datas: n,
+        datas: data_count(row, n),
     }
 }
 
-fn task_plan(to: Target, option: bool, task: Task, n: usize) -> Plan
-    ensures { λ r. ⌜ (r ≡ taskPlan to option task n) × RangedTask task ⌝ }
-{
-    match task {
-        Task::Quiet => label_plan(to, option, 0x02, 0, 0, 0),
-        Task::Read(b) => label_plan(to, option, 0x20, b, 1, 0),
-        Task::Write(b) => label_plan(to, option, 0x21, b, 1, n),
-        Task::Lock(b) => label_plan(to, option, 0x22, b, 1, 0),
-        Task::Select => label_plan(to, option, 0x25, 0, 0, 0),
-        Task::Ready => label_plan(to, option, 0x26, 0, 0, 0),
-        Task::WriteAfi(v) => label_plan(to, option, 0x27, v, 1, 0),
-        Task::LockAfi => label_plan(to, option, 0x28, 0, 0, 0),
-        Task::WriteDsfid(v) => label_plan(to, option, 0x29, v, 1, 0),
-        Task::LockDsfid => label_plan(to, option, 0x2A, 0, 0, 0),
-        Task::Info => label_plan(to, option, 0x2B, 0, 0, 0),
-    }
-}
-
-// k bytes of v, and n of data.
-fn short_plan(v: u64, k: usize, n: usize) -> Plan
-    ensures { λ r. ⌜ r ≡ shortPlan v k n ⌝ }
+// The low bytes of v, and n of data.
+fn short_plan(v: u64, heads: usize, n: usize) -> Plan
+    ensures { λ r. ⌜ r ≡ shortPlan v heads n ⌝ }
 {
     Plan {
         head: v,
-        heads: k,
+        heads: heads,
         uids: 0,
         par: 0,
         pars: 0,
@@ -159,16 +163,16 @@ fn chip_plan(task: ChipTask, n: usize) -> Plan
     }
 }
 
-// As few bytes as hold m bits.
-fn mask_bytes(m: u8) -> usize
-    ensures { λ r. ⌜ r ≡ bytesFor m ⌝ }
+// As few bytes as hold so many bits.
+fn mask_bytes(bits: u8) -> usize
+    ensures { λ r. ⌜ r ≡ bytesFor bits ⌝ }
 {
-    (m as usize + 7) / 8
+    (bits as usize + 7) / 8
 }
 
 // Flags and code 01, pars bytes of par, the mask in as few bytes as hold it.
-fn mask_plan(flags: u8, sixteen: bool, par: u64, pars: usize, m: u8, mask: u64) -> Plan
-    ensures { λ r. ⌜ r ≡ maskPlan flags sixteen par pars m mask ⌝ }
+fn mask_plan(flags: u8, sixteen: bool, par: u64, pars: usize, bits: u8, mask: u64) -> Plan
+    ensures { λ r. ⌜ r ≡ maskPlan flags sixteen par pars bits mask ⌝ }
 {
     Plan {
         head: wide(flags) + slot_flag(sixteen) + 256,
@@ -177,24 +181,24 @@ fn mask_plan(flags: u8, sixteen: bool, par: u64, pars: usize, m: u8, mask: u64) 
         par: par,
         pars: pars,
         mask: mask,
-        masks: mask_bytes(m),
+        masks: mask_bytes(bits),
         datas: 0,
     }
 }
 
 // With an AFI before the mask's length.
-fn family_plan(afi: u8, sixteen: bool, m: u8, mask: u64) -> Plan
-    ensures { λ r. ⌜ (r ≡ maskPlan 22 sixteen (afi + 256 * m) 2 m mask) × (afi < 256) ⌝ }
+fn family_plan(afi: u8, sixteen: bool, bits: u8, mask: u64) -> Plan
+    ensures { λ r. ⌜ (r ≡ maskPlan 22 sixteen (afi + 256 * bits) 2 bits mask) × (afi < 256) ⌝ }
 {
-    mask_plan(22, sixteen, wide(afi) + 256 * wide(m), 2, m, mask)
+    mask_plan(22, sixteen, wide(afi) + 256 * wide(bits), 2, bits, mask)
 }
 
-fn inventory_plan(family: Family, sixteen: bool, m: u8, mask: u64) -> Plan
-    ensures { λ r. ⌜ (r ≡ inventoryPlan family sixteen m mask) × RangedFamily family ⌝ }
+fn inventory_plan(family: Family, sixteen: bool, bits: u8, mask: u64) -> Plan
+    ensures { λ r. ⌜ (r ≡ inventoryPlan family sixteen bits mask) × RangedFamily family ⌝ }
 {
     match family {
-        Family::Any => mask_plan(6, sixteen, wide(m), 1, m, mask),
-        Family::Only(afi) => family_plan(afi, sixteen, m, mask),
+        Family::Any => mask_plan(6, sixteen, wide(bits), 1, bits, mask),
+        Family::Only(afi) => family_plan(afi, sixteen, bits, mask),
     }
 }
 
@@ -202,10 +206,10 @@ fn plan_for(c: Command, n: usize) -> Plan
     ensures { λ r. ⌜ (r ≡ planOf c n) × Ranged c ⌝ }
 {
     match c {
-        Command::Inventory(_, _, family, sixteen, m, mask) => {
-            inventory_plan(family, sixteen, m, mask)
+        Command::Inventory(_, _, family, sixteen, bits, mask) => {
+            inventory_plan(family, sixteen, bits, mask)
         }
-        Command::Label(to, option, task) => task_plan(to, option, task, n),
+        Command::Label(to, option, task, p) => label_plan(to, option, row_of(task), p, n),
         Command::Chip(_, _, task) => chip_plan(task, n),
         Command::Other(_, _) => short_plan(0, 0, 0),
     }
@@ -213,7 +217,7 @@ fn plan_for(c: Command, n: usize) -> Plan
 
 // Writes what a plan says to the front of out, and the check sum behind it.
 fn lay(p: Plan, uid: [u8; 8], data: &[u8], out: &mut [u8]) -> Written
-    requires { ⌜ (64 ≤ length (now out)) × Small p (length (now «data»)) ⌝ }
+    requires { ⌜ PlanFits p (length (now «data»)) (length (now out)) ⌝ }
     ensures { λ r. ⌜ (r ≡ record { number = 0; «length» = length (framed (partsOf p uid (now («data» .entry)))) })
         × (now (out .exit) ≡ framed (partsOf p uid (now («data» .entry))) ++ drop (length (framed (partsOf p uid (now («data» .entry))))) (now (out .entry))) ⌝ }
 {
@@ -235,7 +239,7 @@ pub fn write_request(c: Command, uid: [u8; 8], data: &[u8], out: &mut [u8]) -> W
     ensures { λ r. ⌜ (r ≡ writtenOf c uid (now («data» .entry)) (now (out .entry)))
         × (now (out .exit) ≡ outOf c uid (now («data» .entry)) (now (out .entry))) ⌝ }
 {
-    if out.len() < 64 {
+    if out.len() < LEAST {
         return Written {
             number: 3,
             length: 0,

@@ -1,6 +1,7 @@
 -- The laws of what an event asks, for the crate's own proofs and for those of the crates above.
-pub mod Lookup
-pub mod Requests
-pub mod Decoded
-pub mod Back
-pub mod Orders
+pub mod TableLookup
+pub mod TableRows
+pub mod LabelCases
+pub mod LabelSound
+pub mod LabelFramed
+pub mod ChipSound

@@ -1,8 +1,7 @@
 -- Document 01, "Chips": what a frame asks. Another length, code or check sum than these is ignored. Assumes nothing.
-use mathlib.Core.Path.{_≡_}
-use mathlib.Core.Bool.{Bool, true, not, _&&_, _||_}
+use mathlib.Core.Bool.{Bool, not, _&&_, _||_}
 use mathlib.Core.List.{List}
-use Prim.Native.Nat.{ℕ, _/_, _%_, _^_, _≤_, _<_}
+use Prim.Native.Nat.{ℕ, _/_, _%_}
 use lib.Dec.{eqb, ltb}
 use lib.ListN.{length, getD}
 use Rattle.frame.specs.Choose.{if_then_else_}
@@ -47,23 +46,8 @@ decode f =
 
 -- Document 01, "Events": 1 field off, 2 field on, 5 chip frame; chips ignore 3 and 4
 unfoldable pub heard : ℕ → List ℕ → Order
-heard e f =
-    if eqb e 1 then o.Off
-    else if eqb e 2 then o.On
-    else if eqb e 5 then decode f
+heard number f =
+    if eqb number 1 then o.Off
+    else if eqb number 2 then o.On
+    else if eqb number 5 then decode f
     else o.Ignored
-
--- the orders that frames of bytes ask for: their numbers keep their ranges
-pub data Sound : Order → Type 0 where
-  ignored : Sound o.Ignored
-  off : Sound o.Off
-  on : Sound o.On
-  initiate : Sound o.Initiate
-  pcall : Sound o.Pcall
-  marker : (s : ℕ) → 1 ≤ s → s < 16 → Sound (o.Marker s)
-  select : (id : ℕ) → id < 256 → Sound (o.Select id)
-  completion : Sound o.Completion
-  reset : Sound o.Reset
-  read : (a : ℕ) → listed a ≡ true → Sound (o.Read a)
-  uid : Sound o.Uid
-  write : (a w : ℕ) → listed a ≡ true → w < 2 ^ 32 → Sound (o.Write a w)

@@ -7,4 +7,4 @@ use Rattle.request.specs.Chip as chips
 
 -- labels ignore event 5, chips ignore 3 and 4
 abbrev pub signalOf : ℕ → List ℕ → Signal
-signalOf e f = record { label = labels.heard e f; chip = chips.heard e f }
+signalOf number f = record { label = labels.heard number f; chip = chips.heard number f }

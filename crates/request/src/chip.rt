@@ -109,17 +109,17 @@ pub fn decode_frame(f: &[u8]) -> Order
     Order::Ignored
 }
 
-// What event e with frame f asks.
-pub fn hear(e: u8, f: &[u8]) -> Order
-    ensures { λ r. ⌜ r ≡ heard e (now (f .entry)) ⌝ }
+// What event `number` with frame f asks.
+pub fn hear(number: u8, f: &[u8]) -> Order
+    ensures { λ r. ⌜ r ≡ heard number (now (f .entry)) ⌝ }
 {
-    if e == 1 {
+    if number == 1 {
         return Order::Off;
     }
-    if e == 2 {
+    if number == 2 {
         return Order::On;
     }
-    if e == 5 {
+    if number == 5 {
         return decode_frame(f);
     }
     Order::Ignored

@@ -1,15 +1,20 @@
 // What an event asks of labels, whatever the label.
 use crate::table::Found;
+use crate::table::Row;
+use crate::table::Task;
 use crate::table::find;
+use crate::table::has_answer;
+use crate::table::option_fits;
 use frame::check_sum::is_right;
 use frame::number::byte_at;
 use frame::uid::mask_at;
 use frame::uid::uid_at;
 ghost use mathlib.Core.Path.{_≡_};
+ghost use mathlib.Core.Bool.{not};
 ghost use Prim.Native.Nat.{_≤_, _<_};
 ghost use lib.ListN.{length};
 ghost use Rattle.request.specs.Table.{table, lookup};
-ghost use Rattle.request.specs.Label.{bare, addressing, nothing, most, masked, inventory, plain, checked, quiet, order, addressed, unaddressed, decode, heard, dataOf};
+ghost use Rattle.request.specs.Label.{bare, nobody, most, masked, inventory, isOne, targetFits, faulty, known, checked, call, addressed, unaddressed, addressing, decode, heard, dataOf};
 
 pub enum Target {
     Everyone,
@@ -24,36 +29,20 @@ pub enum Family {
     Only(u8),
 }
 
-// What a label that acts is to do.
-pub enum Order {
-    // No label does anything.
-    Nothing,
-    // An error that needs no label: unknown code, length, Option.
-    Fault(u8),
-    Quiet,
-    // Block number, and whether its lock byte is asked for.
-    Read(u8, bool),
-    // Block number and Option; its bytes stand beside the request.
-    Write(u8, bool),
-    Lock(u8),
-    Select,
-    Ready,
-    WriteAfi(u8),
-    LockAfi,
-    WriteDsfid(u8),
-    LockDsfid,
-    Info,
-}
-
 pub enum Call {
     // An event that labels ignore.
     Ignored,
     Off,
     On,
     EndOfFrame,
+    // A label frame that no label acts on.
+    Nobody,
     // Family, whether sixteen slots, mask length, mask.
     Inventory(Family, bool, u8, u64),
-    Ask(Target, Order),
+    // An error that needs no label: unknown code, length, Option.
+    Fault(Target, u8),
+    // A task, its first parameter, or 0 where it has none, and Option. The bytes of a write stand beside the request.
+    Do(Target, Task, u8, bool),
 }
 
 pub struct Request {
@@ -71,13 +60,13 @@ fn bare_call(call: Call) -> Request
 
 // A label frame that no label acts on.
 fn nobody() -> Request
-    ensures { λ r. ⌜ r ≡ nothing ⌝ }
+    ensures { λ r. ⌜ r ≡ nobody ⌝ }
 {
-    bare_call(Call::Ask(Target::Everyone, Order::Nothing))
+    bare_call(Call::Nobody)
 }
 
 // The longest mask.
-fn most_bits(sixteen: bool) -> u8
+pub fn most_bits(sixteen: bool) -> u8
     ensures { λ r. ⌜ (r ≡ most sixteen) × (r ≤ 64) ⌝ }
 {
     if sixteen {
@@ -97,8 +86,8 @@ fn masked_call(family: Family, sixteen: bool, at: usize, f: &[u8]) -> Request
         return nobody();
     }
     let bits = m as u32;
-    let k = ((bits + 7) / 8) as usize;
-    if f.len() != at + 3 + k {
+    let bytes = ((bits + 7) / 8) as usize;
+    if f.len() != at + 3 + bytes {
         return nobody();
     }
     let mask = mask_at(f, at + 1, bits);
@@ -125,111 +114,93 @@ fn inventory_frame(f: &[u8]) -> Request
     masked_call(Family::Any, one == 0, 2, f)
 }
 
-// A frame of right length and Option: c is its code, o its Option and p its first parameter.
-fn plain_order(c: u8, o: u8, p: u8) -> Order
-    ensures { λ r. ⌜ r ≡ plain c o p ⌝ }
+pub fn is_one(to: Target) -> bool
+    ensures { λ r. ⌜ r ≡ isOne to ⌝ }
 {
-    match c {
-        0x20 => Order::Read(p, o == 1),
-        0x22 => Order::Lock(p),
-        0x25 => Order::Select,
-        0x26 => Order::Ready,
-        0x27 => Order::WriteAfi(p),
-        0x28 => Order::LockAfi,
-        0x29 => Order::WriteDsfid(p),
-        0x2A => Order::LockDsfid,
-        0x2B => Order::Info,
-        _ => Order::Nothing,
+    match to {
+        Target::Everyone => false,
+        Target::Selected => false,
+        Target::One => true,
     }
 }
 
-// The order of a frame with parameters ps, by its code's row.
-fn checked_order(c: u8, o: u8, ps: &[u8]) -> Order
-    ensures { λ r. ⌜ r ≡ checked c o (now (ps .entry)) (lookup c table) ⌝ }
+// Whether a row's task can be asked of a target: some take one UID only.
+pub fn target_fits(row: Row, to: Target) -> bool
+    ensures { λ r. ⌜ r ≡ targetFits row to ⌝ }
 {
-    let row = find(c);
-    let Found::Entry(len, block, option) = row else {
-        return Order::Fault(1);
-    };
+    if row.one {
+        return is_one(to);
+    }
+    true
+}
+
+// An error, of a task that has an answer.
+fn fault(to: Target, row: Row, code: u8) -> Call
+    ensures { λ r. ⌜ r ≡ faulty to row code ⌝ }
+{
+    let success = row.success;
+    if has_answer(success) {
+        return Call::Fault(to, code);
+    }
+    Call::Nobody
+}
+
+// What a frame with parameters ps asks, by its code's row.
+fn known_call(to: Target, option: bool, ps: &[u8], row: Row) -> Call
+    ensures { λ r. ⌜ r ≡ known to option (now (ps .entry)) row ⌝ }
+{
+    if !target_fits(row, to) {
+        return Call::Nobody;
+    }
+    let task = row.task;
     let p = byte_at(ps, 0);
-    if block == 1 {
-        return Order::Write(p, o == 1);
+    if row.block {
+        return Call::Do(to, task, p, option);
     }
-    if ps.len() + 4 != len as usize {
-        return Order::Fault(2);
+    if ps.len() + 4 != row.len as usize {
+        return fault(to, row, 2);
     }
-    if o == 1 {
-        if option == 1 {
-            return plain_order(c, o, p);
-        }
-        return Order::Fault(3);
+    if option_fits(row, option) {
+        return Call::Do(to, task, p, option);
     }
-    plain_order(c, o, p)
+    fault(to, row, 3)
 }
 
-// Stay quiet acts only with Address set, Option clear and no parameters.
-fn quiet_order(a: u8, o: u8, n: usize) -> Order
-    ensures { λ r. ⌜ r ≡ quiet a o n ⌝ }
-{
-    if a == 1 {
-        if o == 1 {
-            return Order::Nothing;
-        }
-        if n == 0 {
-            return Order::Quiet;
-        }
-        return Order::Nothing;
-    }
-    Order::Nothing
-}
-
-// The order of a frame with code c, Option o and parameters ps; a says whether it has a UID.
-fn order_of(a: u8, c: u8, o: u8, ps: &[u8]) -> Order
-    ensures { λ r. ⌜ r ≡ order a c o (now (ps .entry)) ⌝ }
+// What a frame with code c and parameters ps asks.
+fn call_of(to: Target, c: u8, option: bool, ps: &[u8]) -> Call
+    ensures { λ r. ⌜ r ≡ call to c option (now (ps .entry)) ⌝ }
 {
     if c == 1 {
-        return Order::Nothing;
+        return Call::Nobody;
     }
-    if c == 2 {
-        return quiet_order(a, o, ps.len());
-    }
-    if c != 0x25 {
-        return checked_order(c, o, ps);
-    }
-    if a == 1 {
-        return checked_order(c, o, ps);
-    }
-    Order::Nothing
+    let found = find(c);
+    let Found::Known(row) = found else {
+        return Call::Fault(to, 1);
+    };
+    known_call(to, option, ps, row)
 }
 
 // A frame with Address set.
-fn addressed_frame(f: &[u8], o: u8) -> Request
+fn addressed_frame(f: &[u8], option: bool) -> Request
     requires { ⌜ 4 ≤ length (now f) ⌝ }
-    ensures { λ r. ⌜ r ≡ addressed (now (f .entry)) o ⌝ }
+    ensures { λ r. ⌜ r ≡ addressed (now (f .entry)) option ⌝ }
 {
     if f.len() < 12 {
         return nobody();
     }
     let uid = uid_at(f, 2);
     let end = f.len() - 2;
-    let order = order_of(1, f[1], o, &f[10..end]);
-    Request {
-        uid,
-        call: Call::Ask(Target::One, order),
-    }
+    let call = call_of(Target::One, f[1], option, &f[10..end]);
+    Request { uid, call }
 }
 
 // A frame with Address clear.
-fn open_frame(f: &[u8], s: u8, o: u8) -> Request
+fn open_frame(f: &[u8], to: Target, option: bool) -> Request
     requires { ⌜ 4 ≤ length (now f) ⌝ }
-    ensures { λ r. ⌜ r ≡ unaddressed (now (f .entry)) s o ⌝ }
+    ensures { λ r. ⌜ r ≡ unaddressed (now (f .entry)) to option ⌝ }
 {
     let end = f.len() - 2;
-    let order = order_of(0, f[1], o, &f[2..end]);
-    if s == 1 {
-        return bare_call(Call::Ask(Target::Selected, order));
-    }
-    bare_call(Call::Ask(Target::Everyone, order))
+    bare_call(call_of(to, f[1], option, &f[2..end]))
 }
 
 // What a label frame asks.
@@ -260,31 +231,33 @@ fn right_frame(f: &[u8], flags: u8) -> Request
     if flags / 4 % 2 == 1 {
         return inventory_frame(f);
     }
-    let select = flags / 16 % 2;
-    let option = flags / 64 % 2;
+    let option = flags / 64 % 2 == 1;
     if flags / 32 % 2 == 1 {
-        if select == 1 {
+        if flags / 16 % 2 == 1 {
             return nobody();
         }
         return addressed_frame(f, option);
     }
-    open_frame(f, select, option)
+    if flags / 16 % 2 == 1 {
+        return open_frame(f, Target::Selected, option);
+    }
+    open_frame(f, Target::Everyone, option)
 }
 
-// What event e with frame f asks.
-pub fn hear(e: u8, f: &[u8]) -> Request
-    ensures { λ r. ⌜ r ≡ heard e (now (f .entry)) ⌝ }
+// What event `number` with frame f asks.
+pub fn hear(number: u8, f: &[u8]) -> Request
+    ensures { λ r. ⌜ r ≡ heard number (now (f .entry)) ⌝ }
 {
-    if e == 1 {
+    if number == 1 {
         return bare_call(Call::Off);
     }
-    if e == 2 {
+    if number == 2 {
         return bare_call(Call::On);
     }
-    if e == 3 {
+    if number == 3 {
         return decode_frame(f);
     }
-    if e == 4 {
+    if number == 4 {
         return bare_call(Call::EndOfFrame);
     }
     bare_call(Call::Ignored)

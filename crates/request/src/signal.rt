@@ -9,12 +9,12 @@ pub struct Signal {
     pub chip: Order,
 }
 
-// What event e with frame f asks.
-pub fn hear(e: u8, f: &[u8]) -> Signal
-    ensures { λ r. ⌜ r ≡ signalOf e (now (f .entry)) ⌝ }
+// What event `number` with frame f asks.
+pub fn hear(number: u8, f: &[u8]) -> Signal
+    ensures { λ r. ⌜ r ≡ signalOf number (now (f .entry)) ⌝ }
 {
     Signal {
-        label: crate::label::hear(e, f),
-        chip: crate::chip::hear(e, f),
+        label: crate::label::hear(number, f),
+        chip: crate::chip::hear(number, f),
     }
 }

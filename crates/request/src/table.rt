@@ -1,82 +1,190 @@
-// The fixed lengths and the allowed Option, in one small table.
+// The label's commands, in one small table: what goes with a code stands in its row.
 ghost use mathlib.Core.Path.{_≡_};
-ghost use Rattle.request.specs.Table.{table, lookup};
+ghost use Rattle.request.specs.Table.{rowOf, table, lookup, answers, optionFits};
 
-// A command's code, its frame's length without a UID, whether a block of the label's length follows, and whether Option is allowed.
+// What a label is asked beside an Inventory.
+pub enum Task {
+    Quiet,
+    Read,
+    Write,
+    Lock,
+    Select,
+    Ready,
+    WriteAfi,
+    LockAfi,
+    WriteDsfid,
+    LockDsfid,
+    Info,
+}
+
+// What a task's success says.
+pub enum Success {
+    // There is no answer.
+    Never,
+    Done,
+    Block,
+    Info,
+}
+
+// A task's code, its frame's length without a UID, whether a block of the label's length follows, whether Option is allowed,
+// whether it takes one UID only, and what a success says.
 pub struct Row {
+    pub task: Task,
     pub code: u8,
     pub len: u8,
-    pub block: u8,
-    pub option: u8,
+    pub block: bool,
+    pub option: bool,
+    pub one: bool,
+    pub success: Success,
 }
 
 pub enum Found {
-    Entry(u8, u8, u8),
+    Known(Row),
     Missing,
 }
 
-const TABLE: [Row; 10] = [
-    Row {
-        code: 0x20,
-        len: 5,
-        block: 0,
-        option: 1,
-    },
-    Row {
-        code: 0x21,
-        len: 5,
-        block: 1,
-        option: 0,
-    },
-    Row {
-        code: 0x22,
-        len: 5,
-        block: 0,
-        option: 0,
-    },
-    Row {
-        code: 0x25,
-        len: 4,
-        block: 0,
-        option: 0,
-    },
-    Row {
-        code: 0x26,
-        len: 4,
-        block: 0,
-        option: 0,
-    },
-    Row {
-        code: 0x27,
-        len: 5,
-        block: 0,
-        option: 0,
-    },
-    Row {
-        code: 0x28,
-        len: 4,
-        block: 0,
-        option: 0,
-    },
-    Row {
-        code: 0x29,
-        len: 5,
-        block: 0,
-        option: 0,
-    },
-    Row {
-        code: 0x2A,
-        len: 4,
-        block: 0,
-        option: 0,
-    },
-    Row {
-        code: 0x2B,
-        len: 4,
-        block: 0,
-        option: 0,
-    },
+const QUIET: Row = Row {
+    task: Task::Quiet,
+    code: 0x02,
+    len: 4,
+    block: false,
+    option: false,
+    one: true,
+    success: Success::Never,
+};
+
+const READ: Row = Row {
+    task: Task::Read,
+    code: 0x20,
+    len: 5,
+    block: false,
+    option: true,
+    one: false,
+    success: Success::Block,
+};
+
+const WRITE: Row = Row {
+    task: Task::Write,
+    code: 0x21,
+    len: 5,
+    block: true,
+    option: false,
+    one: false,
+    success: Success::Done,
+};
+
+const LOCK: Row = Row {
+    task: Task::Lock,
+    code: 0x22,
+    len: 5,
+    block: false,
+    option: false,
+    one: false,
+    success: Success::Done,
+};
+
+const SELECT: Row = Row {
+    task: Task::Select,
+    code: 0x25,
+    len: 4,
+    block: false,
+    option: false,
+    one: true,
+    success: Success::Done,
+};
+
+const READY: Row = Row {
+    task: Task::Ready,
+    code: 0x26,
+    len: 4,
+    block: false,
+    option: false,
+    one: false,
+    success: Success::Done,
+};
+
+const WRITE_AFI: Row = Row {
+    task: Task::WriteAfi,
+    code: 0x27,
+    len: 5,
+    block: false,
+    option: false,
+    one: false,
+    success: Success::Done,
+};
+
+const LOCK_AFI: Row = Row {
+    task: Task::LockAfi,
+    code: 0x28,
+    len: 4,
+    block: false,
+    option: false,
+    one: false,
+    success: Success::Done,
+};
+
+const WRITE_DSFID: Row = Row {
+    task: Task::WriteDsfid,
+    code: 0x29,
+    len: 5,
+    block: false,
+    option: false,
+    one: false,
+    success: Success::Done,
+};
+
+const LOCK_DSFID: Row = Row {
+    task: Task::LockDsfid,
+    code: 0x2A,
+    len: 4,
+    block: false,
+    option: false,
+    one: false,
+    success: Success::Done,
+};
+
+const INFO: Row = Row {
+    task: Task::Info,
+    code: 0x2B,
+    len: 4,
+    block: false,
+    option: false,
+    one: false,
+    success: Success::Info,
+};
+
+const TABLE: [Row; 11] = [
+    QUIET,
+    READ,
+    WRITE,
+    LOCK,
+    SELECT,
+    READY,
+    WRITE_AFI,
+    LOCK_AFI,
+    WRITE_DSFID,
+    LOCK_DSFID,
+    INFO,
 ];
+
+// The row of a task.
+pub fn row_of(task: Task) -> Row
+    ensures { λ r. ⌜ r ≡ rowOf task ⌝ }
+{
+    match task {
+        Task::Quiet => QUIET,
+        Task::Read => READ,
+        Task::Write => WRITE,
+        Task::Lock => LOCK,
+        Task::Select => SELECT,
+        Task::Ready => READY,
+        Task::WriteAfi => WRITE_AFI,
+        Task::LockAfi => LOCK_AFI,
+        Task::WriteDsfid => WRITE_DSFID,
+        Task::LockDsfid => LOCK_DSFID,
+        Task::Info => INFO,
+    }
+}
 
 // The row of a command's code.
 pub fn find(code: u8) -> Found
@@ -84,12 +192,34 @@ pub fn find(code: u8) -> Found
 {
     let rows = TABLE;
     let mut i = 0;
-    while i < 10 {
+    while i < 11 {
         let row = rows[i];
         if row.code == code {
-            return Found::Entry(row.len, row.block, row.option);
+            return Found::Known(row);
         }
         i += 1;
     }
     Found::Missing
+}
+
+// Whether a success is said.
+pub fn has_answer(success: Success) -> bool
+    ensures { λ r. ⌜ r ≡ answers success ⌝ }
+{
+    match success {
+        Success::Never => false,
+        Success::Done => true,
+        Success::Block => true,
+        Success::Info => true,
+    }
+}
+
+// Whether a row allows the Option that a frame has.
+pub fn option_fits(row: Row, option: bool) -> bool
+    ensures { λ r. ⌜ r ≡ optionFits row option ⌝ }
+{
+    if option {
+        return row.option;
+    }
+    true
 }

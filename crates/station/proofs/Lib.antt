@@ -1,3 +1,2 @@
 -- The C face, as laws.
-pub mod Ways
-pub mod Same
+pub mod OneReply

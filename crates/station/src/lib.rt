@@ -1,15 +1,12 @@
 // The calls for a station's test bench, in C: numbers, bytes with their length, plain structs. include/sackbutflare.h declares them.
-pub mod fields;
-pub mod told;
-
-use crate::fields::Fields;
-use crate::fields::command_of;
-use crate::fields::family_of;
-use crate::told::Told;
-use crate::told::tell;
 use frame::uid::uid_number;
 use inventory::walk::Walked;
 use rack::event::Report;
+use reader::fields::Fields;
+use reader::fields::command_of;
+use reader::fields::family_of;
+use reader::told::Told;
+use reader::told::tell;
 use reader::writer::Written;
 ghost use mathlib.Core.Path.{_≡_};
 ghost use Rattle.frame.specs.CheckSum.{crcOf};
@@ -18,8 +15,8 @@ ghost use Rattle.inventory.specs.Walk.{walkOf};
 ghost use Rattle.inventory.specs.Promise.{Promise};
 ghost use Rattle.reader.specs.Request.{writtenOf, outOf};
 ghost use Rattle.reader.specs.Answer.{readingOf};
-ghost use Rattle.station.specs.Fields.{familyOf, commandOf};
-ghost use Rattle.station.specs.Told.{toldOf};
+ghost use Rattle.reader.specs.Fields.{familyOf, commandOf};
+ghost use Rattle.reader.specs.Told.{toldOf};
 
 // Plays an event on a rack.
 #[no_mangle]

@@ -49,12 +49,12 @@ first c = c .before .before .before .before .before .before
 
 -- once the round is over
 over : {t : ℕ} (c : carry-lts.After-play-round (calls t) (carry-at t) carry.Post carry-Inv-loop carry-μ-loop)
-    → RoundOver (c .play-round .last .0) (start c .args .list .now) (start c .args .m) (start c .args .cursor) (c .play-round .last .1 .1 .0)
+    → RoundOver (c .play-round .last .0) (start c .args .list .now) (start c .args .bits) (start c .args .cursor) (c .play-round .last .1 .1 .0)
     (c .play-round .result)
 over c =
     let s = start c in
     let e = c .play-round .ensures in
-    round-over (s .args .m) (s .args .us .now) (e .0) (s .args .list .now) (s .args .cursor) (s .pre .1) (e .1)
+    round-over (s .args .bits) (s .args .us .now) (e .0) (s .args .list .now) (s .args .cursor) (s .pre .1) (e .1)
 
 -- a slot's end
 within : {t : ℕ} (c : carry-lts.After-leading (calls t) (carry-at t) carry.Post carry-Inv-loop carry-μ-loop)
@@ -68,7 +68,7 @@ within c =
 carry-play-round-requires : (t : ℕ) → carry-lts.Need-play-round-requires (calls t) (carry-at t) carry.Post carry-Inv-loop carry-μ-loop
 carry-play-round-requires t c κs =
     let s = c .before .before .before .before in
-    singles-room (s .args .m) (s .args .us .now) (s .args .cursor) (length (s .args .list .now)) (s .pre .1 .1 .1) (s .pre .1 .0)
+    singles-room (s .args .bits) (s .args .us .now) (s .args .cursor) (length (s .args .list .now)) (s .pre .1 .1 .1) (s .pre .1 .0)
 
 carry-same-length : (t : ℕ) → carry-lts.Need-same-length (calls t) (carry-at t) carry.Post carry-Inv-loop carry-μ-loop
 carry-same-length t c = c .before .before .before .before .before .play-round .kept .0
@@ -80,7 +80,7 @@ carry-returns : (t : ℕ) → carry-lts.Need-returns (calls t) (carry-at t) carr
 carry-returns t c =
     let p = c .before .before .before .before .before in
     let s = start p in
-    answers (s .args .m) (s .args .us .now) (p .play-round .ensures .0) (s .args .list .now) (s .args .cursor) (s .pre .1) (last-round (over p) (c .if1 .taken))
+    answers (s .args .bits) (s .args .us .now) (p .play-round .ensures .0) (s .args .list .now) (s .args .cursor) (s .pre .1) (last-round (over p) (c .if1 .taken))
 
 carry-loop-holds : (t : ℕ) → carry-lts.Need-loop-holds (calls t) (carry-at t) carry.Post carry-Inv-loop carry-μ-loop
 carry-loop-holds t c = carried-none (over (c .before .before .before .before .before))
@@ -190,7 +190,7 @@ carry-returns-2 : (t : ℕ) → carry-lts.Need-returns-2 (calls t) (carry-at t) 
 carry-returns-2 t c =
     let p = first (c .before) in
     let s = start p in
-    answers (s .args .m) (s .args .us .now) (p .play-round .ensures .0) (s .args .list .now) (s .args .cursor) (s .pre .1)
+    answers (s .args .bits) (s .args .us .now) (p .play-round .ensures .0) (s .args .list .now) (s .args .cursor) (s .pre .1)
     (carried-done (over p) (c .before .loop .inv) (c .loop-test .left))
 
 pub +carry-spec : {M : Type 1} → statement M

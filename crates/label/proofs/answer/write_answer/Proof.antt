@@ -8,7 +8,8 @@ use native.Mathlib.Omega.{arith}
 use denote.Ref.{now}
 use borrow.Author.Needs.{needs}
 use lib.ListN.{length, length-set}
-use Rattle.label.specs.Answer.{Told, answerFrame}
+use Rattle.label.specs.Answer.{answerFrame}
+use Rattle.label.specs.Facts.{AnswerFits}
 use Rattle.frame.proofs.Puts.{laid-seal}
 use Rattle.label.proofs.Room.{sized-long}
 use Rattle.label.proofs.Laying.{found-length, info-length, error-room, done-room, found-room, info-room}
@@ -23,13 +24,13 @@ done : (c : tie.After-enum-told2) → 3 ≤ length (now (c .before .before .befo
 done c = done-room _ _ _ (c .before .before .before .before .pre .1) (c .enum-told2 .given .1)
 
 say-block-requires : tie.Need-say-block-requires
-unfolding answerFrame Told
+unfolding answerFrame AnswerFits
 say-block-requires c κs =
     let s = c .before .before .before .before .before .before in
     rw (c .before .before .a2 .given .1) at (s .pre)
 
 returns-2 : tie.Need-returns-2
-unfolding answerFrame Told
+unfolding answerFrame AnswerFits
 returns-2 c =
     let s = c .before .before .before .before .before .before .before .before .before in
     let old = now (s .args .out) in
@@ -37,7 +38,7 @@ returns-2 c =
     rw (c .before .before .before .before .before .a .given .1) (l .long, l .is)
 
 returns-3 : tie.Need-returns-3
-unfolding answerFrame Told
+unfolding answerFrame AnswerFits
 returns-3 c =
     let s = c .before .before .before .before .before .before .before .before in
     let old = now (s .args .out) in
@@ -45,21 +46,21 @@ returns-3 c =
     rw (c .before .before .before .before .enum-told2 .given .1) (l .long, l .is)
 
 returns-4 : tie.Need-returns-4
-unfolding answerFrame Told
+unfolding answerFrame AnswerFits
 returns-4 c =
     let s = c .before .before .before .before .before .before .before .before in
     let h = sized-long (now (s .args .b)) (s .pre .0 .0) in
     rw (c .before .before .before .before .enum-told3 .given .1) (c .before .before .say-found .ensures .0 ∙ sym (found-length (now (s .args .b)) (omega (arith, h))), c .before .before .say-found .ensures .1)
 
 returns-6 : tie.Need-returns-6
-unfolding answerFrame Told
+unfolding answerFrame AnswerFits
 returns-6 c =
     let s = c .before .before .before .before .before .before .before .before in
     let h = sized-long (now (s .args .b)) (s .pre .0 .0) in
     rw (c .before .before .before .before .enum-told4 .given .1) (c .before .before .say-info .ensures .0 ∙ sym (info-length (now (s .args .b)) (omega (arith, h))), c .before .before .say-info .ensures .1)
 
 pub write-answer-spec : {M : Type 1} → statement M
-unfolding answerFrame Told
+unfolding answerFrame AnswerFits
 write-answer-spec =
     tie.close
     (tie.spec

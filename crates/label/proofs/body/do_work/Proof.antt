@@ -9,7 +9,8 @@ use lib.Seq.{sets, take-length}
 use borrow.Author.Needs.{needs}
 use Rattle.label.specs.declared.step.Work.{Work}
 use Rattle.label.specs.declared.step.Work.the-variants as w
-use Rattle.label.specs.Body.{blockAt, Fits, worked}
+use Rattle.label.specs.Body.{blockAt, worked}
+use Rattle.label.specs.Facts.{WorkFits}
 use Rattle.label.proofs.Room.{sized-long, block-fits, locks-fit}
 use Rattle.label.proofs.body.do_work.Statement.{statement}
 use Rattle.label.proofs.body.do_work.Tie as tie
@@ -19,22 +20,22 @@ unfolding worked
 written work n b d e f g = g ∙ rw (e, f, take-length)
 
 put-bytes-requires : tie.Need-put-bytes-requires
-unfolding worked Fits
+unfolding worked WorkFits
 put-bytes-requires c κs =
     let s = c .before .before .before .before .before .before .before .before .args in
-    let f : Fits (s .work) (length (now (s .«data»))) (now (s .b)) = c .before .before .before .before .before .before .before .before .pre .1 in
+    let f : WorkFits (s .work) (length (now (s .«data»))) (now (s .b)) = c .before .before .before .before .before .before .before .before .pre .1 in
     let g = rw (c .before .before .before .before .work .given .1) at f in
     (rw (c .before .place .ensures, g .1) (block-fits (now (s .b)) _ (c .before .before .before .before .before .before .before .before .pre .0) (g .0)), search needs)
 
 set-lock-requires : tie.Need-set-lock-requires
-unfolding worked Fits
+unfolding worked WorkFits
 set-lock-requires c κs =
     let s = c .before .before .before .before .before .before .args in
-    let f : Fits (s .work) (length (now (s .«data»))) (now (s .b)) = c .before .before .before .before .before .before .pre .1 in
+    let f : WorkFits (s .work) (length (now (s .«data»))) (now (s .b)) = c .before .before .before .before .before .before .pre .1 in
     (locks-fit (now (s .b)) (c .before .before .before .before .before .before .pre .0), rw (c .before .before .work2 .given .1) at f)
 
 pub do-work-spec : {M : Type 1} → statement M
-unfolding worked Fits
+unfolding worked WorkFits
 do-work-spec =
     tie.close
     (tie.spec

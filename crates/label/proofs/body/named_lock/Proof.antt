@@ -1,4 +1,4 @@
--- Only an order names a lock byte.
+-- Only a task names a lock.
 -- Assumes nothing.
 use mathlib.Core.Path.{_∙_}
 use denote.Ref.{now}
@@ -16,4 +16,4 @@ named-lock-spec =
     (λ c. search needs)
     (λ c. named-none (c .before .before .args .call) (now (c .before .before .args .b)) (c .match .keys2))
     (λ c κs. search needs)
-    (λ c. c .lock-of .ensures ∙ rw (c .before .before .call .given .1)))
+    (λ c. c .lock-on .ensures ∙ rw (c .before .before .call .given .1)))

@@ -3,12 +3,14 @@
 use mathlib.Core.Path.{_∙_}
 use borrow.Author.Needs.{needs}
 use borrow.Author.Tests.{ne-eqb}
+use Rattle.label.specs.Step.{ready, heeds}
+use Rattle.label.specs.Body.{loadOf}
 use Rattle.label.specs.Slots.{takesPart}
 use Rattle.label.proofs.body.takes_part.Statement.{statement}
 use Rattle.label.proofs.body.takes_part.Tie as tie
 
 pub takes-part-spec : {M : Type 1} → statement M
-unfolding takesPart
+unfolding takesPart heeds ready loadOf
 takes-part-spec =
     tie.close
     (tie.spec

@@ -1,7 +1,6 @@
--- Each way out is a law of Ways; the search finds it, and its premises among the facts.
+-- A ladder of tests, in the order of the definition.
 -- Assumes nothing.
 use borrow.Author.Needs.{needs}
-use Rattle.reader.proofs.Ways.{ways}
 use Rattle.reader.proofs.answer.block.Statement.{statement}
 use Rattle.reader.proofs.answer.block.Tie as tie
 
@@ -10,6 +9,6 @@ block-spec =
     tie.close
     (tie.spec
     (λ c κs. search needs)
-    (λ c. search ways)
+    (λ c. rw (c .before .if1 .taken) (c .locked-block .ensures))
     (λ c κs. search needs)
-    (λ c. search ways))
+    (λ c. rw (c .before .if1 .left) (c .plain-block .ensures)))

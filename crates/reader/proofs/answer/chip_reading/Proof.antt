@@ -1,8 +1,8 @@
--- Each way out is a law of Ways; the search finds it, and its premises among the facts.
+-- Each way out is a law of AnswerWays; the search finds it, and its premises among the facts.
 -- Assumes nothing.
 use Rattle.reader.specs.Answer.{chipReading}
 use borrow.Author.Needs.{needs}
-use Rattle.reader.proofs.Ways.{ways}
+use Rattle.reader.proofs.AnswerWays.{ways}
 use Rattle.reader.proofs.answer.chip_reading.Statement.{statement}
 use Rattle.reader.proofs.answer.chip_reading.Tie as tie
 

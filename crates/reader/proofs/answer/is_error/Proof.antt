@@ -1,8 +1,9 @@
--- Each way out is a law of Ways; the search finds it, and its premises among the facts.
+-- A ladder of tests, in the order of the definition.
 -- Assumes nothing.
 use Rattle.reader.specs.Answer.{isError}
 use borrow.Author.Needs.{needs}
-use Rattle.reader.proofs.Ways.{ways}
+use Rattle.frame.proofs.Tests.{tests}
+use Rattle.reader.specs.Answer.{isError}
 use Rattle.reader.proofs.answer.is_error.Statement.{statement}
 use Rattle.reader.proofs.answer.is_error.Tie as tie
 
@@ -11,9 +12,9 @@ unfolding isError
 is-error-spec =
     tie.close
     (tie.spec
-    (λ c. search ways)
+    (λ c. search tests)
     (λ c. search needs)
-    (λ c. search ways)
+    (λ c. search tests)
     (λ c. search needs)
     (λ c κs. search needs)
-    (λ c. search ways))
+    (λ c. search tests))

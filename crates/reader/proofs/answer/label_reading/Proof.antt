@@ -1,7 +1,7 @@
--- Each way out is a law of Ways; the search finds it, and its premises among the facts.
+-- Each way out is a law of AnswerWays; the search finds it, and its premises among the facts.
 -- Assumes nothing.
 use borrow.Author.Needs.{needs}
-use Rattle.reader.proofs.Ways.{ways}
+use Rattle.reader.proofs.AnswerWays.{ways}
 use Rattle.reader.proofs.answer.label_reading.Statement.{statement}
 use Rattle.reader.proofs.answer.label_reading.Tie as tie
 
@@ -10,8 +10,6 @@ label-reading-spec =
     tie.close
     (tie.spec
     (λ c κs. search needs)
-    (λ c κs. search needs)
-    (λ c. search ways)
     (λ c κs. search needs)
     (λ c κs. search needs)
     (λ c κs. search needs)

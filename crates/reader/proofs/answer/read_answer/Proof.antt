@@ -1,7 +1,7 @@
 -- Ways out as laws; what is left after the check sum is the frame's content.
 -- Assumes nothing.
 use borrow.Author.Needs.{needs}
-use Rattle.reader.proofs.Ways.{ways, answer-4}
+use Rattle.reader.proofs.AnswerWays.{ways, answer-right}
 use Rattle.reader.proofs.answer.read_answer.Statement.{statement}
 use Rattle.reader.proofs.answer.read_answer.Tie as tie
 
@@ -25,4 +25,5 @@ read-answer-spec =
     (λ c.
     let g = c .before .before .before in
     let v = g .before .before .before in
-    answer-4 _ _ _ _ _ _ _ (v .is-valid .ensures) (g .before .before .if1 .left) (g .before .if2 .left) (g .is-right .ensures) (c .before .before .if3 .left) (c .shape .ensures)))
+    answer-right _ _ _ _ _ _ (v .is-valid .ensures) (g .before .before .if1 .left) (g .before .if2 .left) _ (g .is-right .ensures) (c .before .before .if3 .left)
+    (c .shape .ensures)))

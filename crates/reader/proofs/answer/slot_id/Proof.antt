@@ -1,19 +1,21 @@
--- Each way out is a law of Ways; the search finds it, and its premises among the facts.
+-- A ladder of tests, in the order of the definition.
 -- Assumes nothing.
 use borrow.Author.Needs.{needs}
-use Rattle.reader.proofs.Ways.{ways}
+use Rattle.frame.proofs.Tests.{tests}
+use Rattle.reader.specs.Answer.{chipReading}
 use Rattle.reader.proofs.answer.slot_id.Statement.{statement}
 use Rattle.reader.proofs.answer.slot_id.Tie as tie
 
 pub slot-id-spec : {M : Type 1} → statement M
+unfolding chipReading
 slot-id-spec =
     tie.close
     (tie.spec
     (λ c κs. search needs)
-    (λ c. search ways)
+    (λ c. search tests)
     (λ c. search needs)
     (λ c κs. search needs)
-    (λ c. search ways)
+    (λ c. search tests)
     (λ c. search needs)
     (λ c κs. search needs)
-    (λ c. search ways))
+    (λ c. search tests))

@@ -1,6 +1,6 @@
--- Each way out is a law of Ways; the search finds it, and its premises among the facts.
+-- Each way out is a law of CommandWays; the search finds it, and its premises among the facts.
 -- Assumes nothing.
-use Rattle.reader.proofs.Ways.{ways}
+use Rattle.reader.proofs.CommandWays.{ways}
 use Rattle.reader.proofs.command.block_fits.Statement.{statement}
 use Rattle.reader.proofs.command.block_fits.Tie as tie
 

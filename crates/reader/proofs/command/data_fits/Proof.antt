@@ -1,7 +1,6 @@
--- Each way out is a law of Ways; the search finds it, and its premises among the facts.
+-- A block's data alone is looked at.
 -- Assumes nothing.
 use borrow.Author.Needs.{needs}
-use Rattle.reader.proofs.Ways.{ways}
 use Rattle.reader.proofs.command.data_fits.Statement.{statement}
 use Rattle.reader.proofs.command.data_fits.Tie as tie
 
@@ -9,26 +8,6 @@ pub data-fits-spec : {M : Type 1} → statement M
 data-fits-spec =
     tie.close
     (tie.spec
-    (λ c. search needs)
-    (λ c. search needs)
-    (λ c. search needs)
     (λ c κs. search needs)
-    (λ c. search needs)
-    (λ c. search needs)
-    (λ c. search needs)
-    (λ c. search needs)
-    (λ c. search needs)
-    (λ c. search needs)
-    (λ c. search needs)
-    (λ c. search needs)
-    (λ c. search needs)
-    (λ c. search needs)
-    (λ c. search ways)
-    (λ c. search needs)
-    (λ c. search needs)
-    (λ c. search needs)
-    (λ c. search needs)
-    (λ c. search needs)
-    (λ c. search needs)
-    (λ c. search needs)
+    (λ c. rw (c .before .if1 .taken) (c .block-fits .ensures))
     (λ c. search needs))

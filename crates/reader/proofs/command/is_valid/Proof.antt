@@ -1,8 +1,8 @@
--- Each way out is a law of Ways; the search finds it, and its premises among the facts.
+-- Each way out is a law of CommandWays; the search finds it, and its premises among the facts.
 -- Assumes nothing.
 use Rattle.reader.specs.Command.{valid}
 use borrow.Author.Needs.{needs}
-use Rattle.reader.proofs.Ways.{ways}
+use Rattle.reader.proofs.CommandWays.{ways}
 use Rattle.reader.proofs.command.is_valid.Statement.{statement}
 use Rattle.reader.proofs.command.is_valid.Tie as tie
 

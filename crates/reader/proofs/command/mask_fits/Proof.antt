@@ -1,7 +1,7 @@
--- Each way out is a law of Ways; the search finds it, and its premises among the facts.
+-- Each way out is a law of CommandWays; the search finds it, and its premises among the facts.
 -- Assumes nothing.
 use borrow.Author.Needs.{needs}
-use Rattle.reader.proofs.Ways.{ways}
+use Rattle.reader.proofs.CommandWays.{ways}
 use Rattle.reader.proofs.command.mask_fits.Statement.{statement}
 use Rattle.reader.proofs.command.mask_fits.Tie as tie
 

@@ -1,8 +1,8 @@
 -- The plan from what the calls ensure.
 -- Assumes nothing.
+use mathlib.Core.Path.{_∙_}
 use native.Mathlib.Omega.{arith}
 use borrow.Author.Needs.{needs}
-use Rattle.reader.proofs.Plans.{family-plan}
 use Rattle.reader.proofs.writer.family_plan.Statement.{statement}
 use Rattle.reader.proofs.writer.family_plan.Tie as tie
 
@@ -15,4 +15,4 @@ family-plan-spec =
     (λ c. search needs)
     (λ c. search needs)
     (λ c κs. search needs)
-    (λ c. family-plan _ (c .before .before .before .args .sixteen) _ _ _ _ _ (c .before .before .wide .ensures) (c .before .wide2 .ensures) (c .mask-plan .ensures) (omega arith)))
+    (λ c. (c .mask-plan .ensures ∙ rw (c .before .before .wide .ensures, c .before .wide2 .ensures), omega arith)))

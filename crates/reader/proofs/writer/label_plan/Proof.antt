@@ -2,7 +2,6 @@
 -- Assumes nothing.
 use native.Mathlib.Omega.{arith}
 use borrow.Author.Needs.{needs}
-use Rattle.reader.proofs.Plans.{label-plan}
 use Rattle.reader.proofs.writer.label_plan.Statement.{statement}
 use Rattle.reader.proofs.writer.label_plan.Tie as tie
 
@@ -11,16 +10,16 @@ label-plan-spec =
     tie.close
     (tie.spec
     (λ c κs. search needs)
-    (λ c. search needs)
-    (λ c κs. search needs)
-    (λ c. search needs)
     (λ c κs. search needs)
     (λ c. search needs)
     (λ c. search needs)
     (λ c κs. search needs)
+    (λ c κs. search needs)
+    (λ c. search needs)
+    (λ c. search needs)
     (λ c κs. search needs)
     (λ c.
-    let u = c .before in
-    let w = u .before in
-    let o = w .before in
-    label-plan (o .before .before .args .to) (o .before .before .args .option) _ _ _ _ _ _ _ _ _ (o .before .mode-of .ensures) (o .option-flag .ensures) (w .wide .ensures) (u .uid-count .ensures) (c .wide2 .ensures) (omega arith)))
+    let s = c .before in
+    let u = s .before .before in
+    let f = u .before .before in
+    (rw (f .flags-of .ensures .0, u .before .wide .ensures, u .uid-count .ensures, s .before .wide2 .ensures, c .data-count .ensures), omega arith)))

@@ -1,7 +1,7 @@
 -- The straight line of puts: one law over what all of them ensure.
 -- Assumes nothing.
 use borrow.Author.Needs.{needs}
-use Rattle.reader.proofs.Plans.{lay-way}
+use Rattle.reader.proofs.PlanParts.{lay-way}
 use Rattle.reader.proofs.writer.lay.Statement.{statement}
 use Rattle.reader.proofs.writer.lay.Tie as tie
 

@@ -2,7 +2,6 @@
 -- Assumes nothing.
 use native.Mathlib.Omega.{arith}
 use borrow.Author.Needs.{needs}
-use Rattle.reader.proofs.Plans.{marker-plan}
 use Rattle.reader.proofs.writer.marker_plan.Statement.{statement}
 use Rattle.reader.proofs.writer.marker_plan.Tie as tie
 
@@ -14,4 +13,4 @@ marker-plan-spec =
     (λ c. search needs)
     (λ c. search needs)
     (λ c κs. search needs)
-    (λ c. marker-plan _ _ _ (c .before .wide .ensures) (c .short-plan .ensures) (omega arith)))
+    (λ c. (rw (← c .before .wide .ensures) (c .short-plan .ensures), omega arith)))

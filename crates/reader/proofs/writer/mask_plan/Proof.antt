@@ -1,7 +1,6 @@
 -- The plan from what the calls ensure.
 -- Assumes nothing.
 use borrow.Author.Needs.{needs}
-use Rattle.reader.proofs.Plans.{mask-plan}
 use Rattle.reader.proofs.writer.mask_plan.Statement.{statement}
 use Rattle.reader.proofs.writer.mask_plan.Tie as tie
 
@@ -14,4 +13,4 @@ mask-plan-spec =
     (λ c. search needs)
     (λ c. search needs)
     (λ c κs. search needs)
-    (λ c. search (needs, mask-plan)))
+    (λ c. rw (c .before .before .wide .ensures, c .before .slot-flag .ensures .0, c .mask-bytes .ensures)))

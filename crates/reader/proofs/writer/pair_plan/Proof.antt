@@ -2,7 +2,6 @@
 -- Assumes nothing.
 use native.Mathlib.Omega.{arith}
 use borrow.Author.Needs.{needs}
-use Rattle.reader.proofs.Plans.{pair-plan}
 use Rattle.reader.proofs.writer.pair_plan.Statement.{statement}
 use Rattle.reader.proofs.writer.pair_plan.Tie as tie
 
@@ -15,4 +14,4 @@ pair-plan-spec =
     (λ c. search needs)
     (λ c. search needs)
     (λ c κs. search needs)
-    (λ c. pair-plan _ _ _ _ _ _ (c .before .before .wide .ensures) (c .before .wide2 .ensures) (c .short-plan .ensures) (omega arith)))
+    (λ c. (rw (← c .before .before .wide .ensures, ← c .before .wide2 .ensures) (c .short-plan .ensures), omega arith)))

@@ -1,8 +1,8 @@
 -- An arm of the match is the plan at that case.
 -- Assumes nothing.
-use Rattle.reader.specs.Plan.{planOf, Ranged}
 use borrow.Author.Needs.{needs}
-use Rattle.reader.proofs.Plans.{plan-arm}
+use Rattle.request.proofs.TableRows.{row-fine}
+use Rattle.reader.specs.Plan.{planOf, Ranged}
 use Rattle.reader.proofs.writer.plan_for.Statement.{statement}
 use Rattle.reader.proofs.writer.plan_for.Tie as tie
 
@@ -15,11 +15,12 @@ plan-for-spec =
     (λ c κs. search needs)
     (λ c. search needs)
     (λ c κs. search needs)
+    (λ c κs. rw (c .row-of .ensures) (row-fine _ .least))
     (λ c. search needs)
     (λ c κs. search needs)
     (λ c. search needs)
     (λ c κs. search needs)
-    (λ c. plan-arm _ _ _ (c .before .before .before .before .args .n) (c .before .before .c .given .1) (c .inventory-plan .ensures .0) (c .inventory-plan .ensures .1))
-    (λ c. plan-arm _ _ _ (c .before .before .before .before .args .n) (c .before .before .c2 .given .1) (c .task-plan .ensures .0) (c .task-plan .ensures .1))
-    (λ c. plan-arm _ _ _ (c .before .before .before .before .args .n) (c .before .before .c3 .given .1) (c .chip-plan .ensures .0) (c .chip-plan .ensures .1))
-    (λ c. plan-arm _ _ _ (c .before .before .before .args .n) (c .before .enum-told .given .1) (c .short-plan .ensures) tt))
+    (λ c. rw (c .before .before .c .given .1) (c .inventory-plan .ensures))
+    (λ c. rw (c .before .before .before .c2 .given .1, ← c .before .row-of .ensures) (c .label-plan .ensures))
+    (λ c. rw (c .before .before .c3 .given .1) (c .chip-plan .ensures))
+    (λ c. rw (c .before .enum-told .given .1) (c .short-plan .ensures, tt)))

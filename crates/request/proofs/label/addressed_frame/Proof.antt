@@ -1,4 +1,4 @@
--- Too short: nothing; else the UID and the order, as the calls ensure them.
+-- Too short: nothing; else the UID and the call, as the calls ensure them.
 -- Assumes nothing.
 use Rattle.request.specs.Label.{addressed}
 use borrow.Author.Needs.{needs}
@@ -21,4 +21,4 @@ addressed-frame-spec =
     (λ c. search needs)
     (λ c. search needs)
     (λ c κs. search needs)
-    (λ c. rw (le-ltb _ _ (c .before .before .before .before .if1 .left), c .order-of .ensures, c .before .before .before .uid-at .ensures)))
+    (λ c. rw (le-ltb _ _ (c .before .before .before .before .if1 .left), c .call-of .ensures, c .before .before .before .uid-at .ensures)))

@@ -3,7 +3,7 @@
 use mathlib.Core.Path.{sym}
 use denote.Ref.{now}
 use borrow.Author.Needs.{needs}
-use Rattle.request.proofs.Requests.{data-one, data-open}
+use Rattle.request.proofs.LabelCases.{data-one, data-open}
 use Rattle.request.proofs.label.data_of.Statement.{statement}
 use Rattle.request.proofs.label.data_of.Tie as tie
 

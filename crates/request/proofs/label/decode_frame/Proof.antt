@@ -5,7 +5,7 @@ use mathlib.Core.Path.{sym, _∙_}
 use denote.Ref.{now}
 use borrow.Author.Needs.{needs}
 use Rattle.frame.proofs.Tests.{tests}
-use Rattle.request.proofs.Requests.{decode-right, decode-wrong}
+use Rattle.request.proofs.LabelCases.{decode-right, decode-wrong}
 use Rattle.request.proofs.label.decode_frame.Statement.{statement}
 use Rattle.request.proofs.label.decode_frame.Tie as tie
 

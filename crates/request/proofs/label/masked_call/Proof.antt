@@ -4,7 +4,7 @@ use mathlib.Core.Path.{sym, _∙_}
 use denote.Ref.{now}
 use borrow.Author.Needs.{needs}
 use Rattle.frame.specs.Ending.{bytesFor}
-use Rattle.request.proofs.Requests.{masked-over, masked-misfit, masked-fits}
+use Rattle.request.proofs.LabelCases.{masked-over, masked-misfit, masked-fits}
 use Rattle.request.proofs.label.masked_call.Statement.{statement}
 use Rattle.request.proofs.label.masked_call.Tie as tie
 

@@ -18,4 +18,6 @@ right-frame-spec =
     (λ c κs. search needs)
     (λ c. search tests)
     (λ c κs. search needs)
+    (λ c. search tests)
+    (λ c κs. search needs)
     (λ c. search tests))

@@ -3,7 +3,7 @@
 use mathlib.Core.Path.{sym}
 use denote.Ref.{now}
 use borrow.Author.Needs.{needs}
-use Rattle.request.proofs.Requests.{data-short, data-cut, data-open}
+use Rattle.request.proofs.LabelCases.{data-short, data-cut, data-open}
 use Rattle.request.proofs.label.short_data.Statement.{statement}
 use Rattle.request.proofs.label.short_data.Tie as tie
 

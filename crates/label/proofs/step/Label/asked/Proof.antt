@@ -17,6 +17,10 @@ asked-spec =
     (λ c κs. search needs)
     (λ c κs. search needs)
     (λ c κs. search needs)
-    (λ c. c .perform .ensures ∙ rw (c .before .before .before .ended .ensures, ne-eqb _ _ (c .before .before .before .before .if1 .left), sym (c .before .before .is-meant .ensures) ∙ c .before .if2 .taken))
+    (λ c.
+    let l = c .before .before .before in
+    c .perform .ensures ∙ rw (l .ended .ensures, ne-eqb _ _ (l .before .if1 .left), sym (c .before .before .is-meant .ensures) ∙ c .before .if2 .taken))
     (λ c κs. search needs)
-    (λ c. c .passed .ensures ∙ rw (c .before .before .before .ended .ensures, ne-eqb _ _ (c .before .before .before .before .if1 .left), sym (c .before .before .is-meant .ensures) ∙ c .before .if2 .left)))
+    (λ c.
+    let l = c .before .before .before in
+    c .passed .ensures ∙ rw (l .ended .ensures, ne-eqb _ _ (l .before .if1 .left), sym (c .before .before .is-meant .ensures) ∙ c .before .if2 .left)))

@@ -2,12 +2,12 @@
 -- Assumes nothing.
 use mathlib.Core.Path.{_∙_}
 use borrow.Author.Needs.{needs}
-use Rattle.label.specs.Step.{off}
+use Rattle.label.specs.Step.{fieldOff}
 use Rattle.label.proofs.step.Label.field_off.Statement.{statement}
 use Rattle.label.proofs.step.Label.field_off.Tie as tie
 
 pub field-off-spec : {M : Type 1} → statement M
-unfolding off
+unfolding fieldOff
 field-off-spec =
     tie.close
     (tie.spec

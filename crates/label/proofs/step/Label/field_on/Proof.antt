@@ -3,12 +3,12 @@
 use mathlib.Core.Path.{_∙_}
 use borrow.Author.Needs.{needs}
 use borrow.Author.Tests.{eq-eqb, ne-eqb}
-use Rattle.label.specs.Step.{on}
+use Rattle.label.specs.Step.{fieldOn}
 use Rattle.label.proofs.step.Label.field_on.Statement.{statement}
 use Rattle.label.proofs.step.Label.field_on.Tie as tie
 
 pub field-on-spec : {M : Type 1} → statement M
-unfolding on
+unfolding fieldOn
 field-on-spec =
     tie.close
     (tie.spec

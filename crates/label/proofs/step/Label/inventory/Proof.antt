@@ -1,4 +1,4 @@
--- State 0 or not; then the tests in the order of the definition.
+-- State 0 or not; then one test: the slot sequence ends first, either way.
 -- Assumes nothing.
 use mathlib.Core.Path.{sym, _∙_}
 use borrow.Author.Needs.{needs}
@@ -17,15 +17,10 @@ inventory-spec =
     (λ c κs. search needs)
     (λ c κs. search needs)
     (λ c κs. search needs)
+    (λ c.
+    let l = c .before .before .before in
+    c .opens .ensures ∙ rw (l .ended .ensures, ne-eqb _ _ (l .before .if1 .left), sym (c .before .before .heeds .ensures) ∙ c .before .if2 .taken))
     (λ c κs. search needs)
-    (λ c κs. search needs)
-    (λ c. c .turn .ensures ∙ rw (c .before .in-slot .ensures, c .before .before .before .before .before .before .before .ended .ensures, ne-eqb _ _ (c .before .before .before .before .before .before .before .before .if1 .left), sym (c .before .before .before .before .before .before .is-ready .ensures) ∙ c .before .before .before .before .before .if2 .taken, sym (c .before .before .before .before .passing .ensures) ∙ c .before .before .before .if3 .taken, c .before .before .if4 .taken))
-    (λ c κs. search needs)
-    (λ c κs. search needs)
-    (λ c. c .told .ensures ∙ rw (c .before .before .before .before .before .before .before .before .before .ended .ensures, ne-eqb _ _ (c .before .before .before .before .before .before .before .before .before .before .if1 .left), sym (c .before .before .before .before .before .before .before .before .is-ready .ensures) ∙ c .before .before .before .before .before .before .before .if2 .taken, sym (c .before .before .before .before .before .before .passing .ensures) ∙ c .before .before .before .before .before .if3 .taken, c .before .before .before .before .if4 .left, sym (c .before .before .ends-in .ensures) ∙ c .before .if5 .taken))
-    (λ c κs. search needs)
-    (λ c. c .silent2 .ensures ∙ rw (c .before .before .before .before .before .before .before .before .before .ended .ensures, ne-eqb _ _ (c .before .before .before .before .before .before .before .before .before .before .if1 .left), sym (c .before .before .before .before .before .before .before .before .is-ready .ensures) ∙ c .before .before .before .before .before .before .before .if2 .taken, sym (c .before .before .before .before .before .before .passing .ensures) ∙ c .before .before .before .before .before .if3 .taken, c .before .before .before .before .if4 .left, sym (c .before .before .ends-in .ensures) ∙ c .before .if5 .left))
-    (λ c κs. search needs)
-    (λ c. c .silent3 .ensures ∙ rw (c .before .before .before .before .before .ended .ensures, ne-eqb _ _ (c .before .before .before .before .before .before .if1 .left), sym (c .before .before .before .before .is-ready .ensures) ∙ c .before .before .before .if2 .taken, sym (c .before .before .passing .ensures) ∙ c .before .if3 .left))
-    (λ c κs. search needs)
-    (λ c. c .silent4 .ensures ∙ rw (c .before .before .before .ended .ensures, ne-eqb _ _ (c .before .before .before .before .if1 .left), sym (c .before .before .is-ready .ensures) ∙ c .before .if2 .left)))
+    (λ c.
+    let l = c .before .before .before in
+    c .silent2 .ensures ∙ rw (l .ended .ensures, ne-eqb _ _ (l .before .if1 .left), sym (c .before .before .heeds .ensures) ∙ c .before .if2 .left)))

@@ -1,0 +1,197 @@
+-- Reading an answer gives its meaning: a frame's shape is that of its content, and the content of each answer, spelt out byte by byte,
+-- passes its tests and carries its values.
+-- Assumes nothing.
+use mathlib.Core.Path.{_≡_, refl, sym, ap, ap₂, _∙_}
+use mathlib.Core.Bool.{Bool, true, false, _&&_}
+use mathlib.Core.List.{List, [], _∷_, _++_}
+use Prim.Native.Nat.{ℕ, suc, _+_, _-_, _%_, _≤_}
+use native.Mathlib.Omega.{arith}
+use lib.Dec.{eqb}
+use lib.ListN.{length, getD, drop, length-drop}
+use lib.Seq.{length-take-le, take-at}
+use borrow.Author.Tests.{le-leb, le-ltb, eq-eqb}
+use Rattle.frame.specs.Number.{num, bytesOf, part}
+use Rattle.frame.specs.CheckSum.{crcOf, framedWith, framed}
+use Rattle.frame.specs.Ending.{endsIn}
+use Rattle.frame.proofs.CheckSumFrames.{length-framed, content-framed, right-all}
+use Rattle.frame.proofs.Lists.{window, window-take, window-all}
+use Rattle.request.specs.Table.{rowOf, answers}
+use Rattle.request.specs.declared.table.Task.{Task}
+use Rattle.request.specs.declared.table.Success.the-variants as s
+use Rattle.request.specs.declared.label.Target.{Target}
+use Rattle.request.specs.declared.label.Family.{Family}
+use Rattle.label.specs.declared.step.Answer.the-variants as a
+use Rattle.label.specs.Locks.{lockOn}
+use Rattle.label.specs.Body.{sizeOf, blockAt}
+use Rattle.label.specs.Facts.{LabelFine}
+use Rattle.label.specs.Answer as labelAnswer
+use Rattle.label.proofs.Locked.{lock-one}
+use Rattle.label.proofs.Room.{sized-long, block-fits}
+use Rattle.chip.specs.declared.step.Answer.the-variants as ca
+use Rattle.chip.specs.Body.{placeOf}
+use Rattle.chip.specs.Answer as chipAnswer
+use Rattle.chip.proofs.Shapes.{place-fits}
+use Rattle.reader.specs.declared.command.ChipTask.the-variants as p
+use Rattle.reader.specs.declared.command.Command.{Command}
+use Rattle.reader.specs.declared.command.Command.the-variants.{Inventory, Label, Chip}
+use Rattle.reader.specs.declared.answer.Meaning.the-variants as m
+use Rattle.reader.specs.declared.answer.Reading.{Reading}
+use Rattle.reader.specs.Command.{valid}
+use Rattle.reader.specs.Answer.{said, saidOf, errorCode, isError, doneOf, blockOf, owned, infoOf, successOf, labelReading, foundOf, chipReading, shapeOf, readingOf}
+
+-- a frame means what its content means
+read-framed : (c : Command) (uid : List ℕ) (n : ℕ) (s : List ℕ) → valid c n ≡ true → 1 ≤ length s → readingOf c uid n (framed s) ≡ shapeOf c uid s
+unfolding readingOf
+read-framed c uid n s v h =
+    let l : 3 ≤ length (framed s) = omega (arith, length-framed 0xFFFF true s) in
+    rw (v, le-ltb (length (framed s)) 3 l, right-all s) (ap (shapeOf c uid) (content-framed 0xFFFF true s))
+
+-- ---- labels
+
+pub and-false : (b : Bool) → (b && false) ≡ false
+and-false true = refl
+and-false false = refl
+
+-- a frame that starts with 00 is no error
+no-error : (s : List ℕ) → isError (0 ∷ s) ≡ false
+unfolding isError
+no-error s = and-false (eqb (length (0 ∷ s)) 2)
+
+-- 00 and a block; with Option, its lock between
+plain-block : (s : List ℕ) → 1 ≤ length s → length s ≤ 32 → blockOf false (0 ∷ s) ≡ said (m.Block 1 (length s))
+unfolding blockOf
+plain-block s h l =
+    let q : suc (length s) - 1 ≡ length s = omega arith in
+    rw (le-leb 2 (suc (length s)) (omega arith), le-leb (suc (length s)) 33 (omega arith), q)
+
+lock-block : (x : ℕ) (s : List ℕ) → x ≤ 1 → 1 ≤ length s → length s ≤ 32 → blockOf true (0 ∷ x ∷ s) ≡ said (m.LockAndBlock x 2 (length s))
+unfolding blockOf
+lock-block x s z h l =
+    let q : suc (suc (length s)) - 2 ≡ length s = omega arith in
+    rw (le-leb 3 (suc (suc (length s))) (omega arith), le-leb (suc (suc (length s))) 34 (omega arith), le-leb x 1 z, q)
+
+-- block k's bytes
+abbrev pub held : ℕ → List ℕ → List ℕ
+held k b = part (blockAt b k) (sizeOf b) b
+
+abbrev pub blockSaid : Bool → ℕ → List ℕ → Reading
+blockSaid true k b = said (m.LockAndBlock (lockOn k b) 2 (sizeOf b))
+blockSaid false k b = said (m.Block 1 (sizeOf b))
+
+module _ (k : ℕ) (b : List ℕ) (ok : LabelFine b) (h : k ≤ getD b 11 0) where
+  held-long : length (held k b) ≡ sizeOf b
+  held-long = length-take-le (sizeOf b) (drop (blockAt b k) b) (rw (length-drop (blockAt b k) b) (omega (arith, block-fits b k (ok .sized) h)))
+
+  block-bytes : (option : Bool) → blockOf option (0 ∷ labelAnswer.blockBytes k option b) ≡ blockSaid option k b
+  unfolding labelAnswer.blockBytes
+  block-bytes true =
+      lock-block (lockOn k b) (held k b) (lock-one k b (ok .locked) h) (omega (arith, held-long)) (omega (arith, ok .size, held-long))
+      ∙ ap (λ (x : ℕ). said (m.LockAndBlock (lockOn k b) 2 x)) held-long
+  block-bytes false =
+      plain-block (held k b) (omega (arith, held-long)) (omega (arith, ok .size, held-long)) ∙ ap (λ (x : ℕ). said (m.Block 1 x)) held-long
+
+  -- at the place that is said stand the block's bytes
+  pub block-there : (part 1 (sizeOf b) (labelAnswer.answerFrame (a.Block k false) b) ≡ held k b)
+      × (part 2 (sizeOf b) (labelAnswer.answerFrame (a.Block k true) b) ≡ held k b)
+  unfolding labelAnswer.answerFrame labelAnswer.blockBytes framedWith
+  block-there =
+      let s = held k b in
+      (take-at s (bytesOf 2 (crcOf (0 ∷ s))) (sizeOf b) held-long, take-at s (bytesOf 2 (crcOf (0 ∷ lockOn k b ∷ s))) (sizeOf b) held-long)
+
+-- what a label says of itself
+abbrev pub infoSaid : List ℕ → Reading
+infoSaid b = saidOf (m.Info (getD b 8 0) (getD b 9 0) (getD b 11 0) (getD b 12 0) (getD b 13 0)) (part 0 8 b)
+
+info-bytes : (x : List ℕ) (to : Target) (uid b : List ℕ) → 14 ≤ length b → getD b 12 0 ≤ 31 → owned to uid (part 0 8 b) ≡ true
+    → x ≡ 0 ∷ 0x0F ∷ (part 0 10 b ++ part 11 3 b) → infoOf to uid x ≡ infoSaid b
+unfolding infoOf
+info-bytes x to uid b h z o e =
+    let w : x ≡ 0 ∷ 0x0F ∷ (window 10 0 b ++ window 3 11 b) =
+    e ∙ ap₂ (λ (u v : List ℕ). 0 ∷ 0x0F ∷ (u ++ v)) (sym (window-take 10 0 b (omega arith))) (sym (window-take 3 11 b (omega arith)))
+    in
+    let u : window 8 0 b ≡ part 0 8 b = window-take 8 0 b (omega arith) in
+    rw (w, u, le-leb (getD b 12 0) 31 z, o)
+
+-- to a label command, by what its task's success says
+module _ (to : Target) (option : Bool) (task : Task) (p : ℕ) (uid : List ℕ) (n : ℕ) (v : valid (Label to option task p) n ≡ true) where
+  pub error-read : (code : ℕ) (b : List ℕ) → answers (rowOf task .success) ≡ true → errorCode code ≡ true
+      → readingOf (Label to option task p) uid n (labelAnswer.answerFrame (a.Error code) b) ≡ said (m.Error code)
+  unfolding shapeOf labelReading isError labelAnswer.answerFrame
+  error-read code b h z = read-framed (Label to option task p) uid n (1 ∷ code ∷ []) v (omega arith) ∙ rw (h, z)
+
+  -- a success means what its content means
+  success-read : (s : List ℕ) → readingOf (Label to option task p) uid n (framed (0 ∷ s)) ≡ successOf to option (rowOf task .success) uid (0 ∷ s)
+  unfolding shapeOf labelReading
+  success-read s = read-framed (Label to option task p) uid n (0 ∷ s) v (omega arith) ∙ rw (no-error s, and-false (answers (rowOf task .success)))
+
+  pub done-read : (b : List ℕ) → rowOf task .success ≡ s.Done → readingOf (Label to option task p) uid n (labelAnswer.answerFrame a.Done b) ≡ said m.Done
+  unfolding labelAnswer.answerFrame successOf doneOf
+  done-read b e = success-read [] ∙ rw e
+
+  pub block-read : (k : ℕ) (b : List ℕ) → LabelFine b → k ≤ getD b 11 0 → rowOf task .success ≡ s.Block
+      → readingOf (Label to option task p) uid n (labelAnswer.answerFrame (a.Block k option) b) ≡ blockSaid option k b
+  unfolding labelAnswer.answerFrame successOf
+  block-read k b ok h e = success-read (labelAnswer.blockBytes k option b) ∙ rw e (block-bytes k b ok h option)
+
+  pub info-read : (b : List ℕ) → LabelFine b → owned to uid (part 0 8 b) ≡ true → rowOf task .success ≡ s.Info
+      → readingOf (Label to option task p) uid n (labelAnswer.answerFrame a.Info b) ≡ infoSaid b
+  unfolding labelAnswer.answerFrame successOf
+  info-read b ok o e =
+      success-read (0x0F ∷ (part 0 10 b ++ part 11 3 b))
+      ∙ rw e (info-bytes _ to uid b (omega (arith, sized-long b (ok .sized))) (ok .size) o refl)
+
+-- to an Inventory
+found-bytes : (x u : List ℕ) (dsfid mask bits : ℕ) → length u ≡ 8 → endsIn u mask bits ≡ true → x ≡ 0 ∷ dsfid ∷ u
+    → foundOf bits mask x ≡ saidOf (m.Found dsfid) u
+unfolding foundOf
+found-bytes x u dsfid mask bits h o e =
+    let i : window 8 0 u ≡ u = window-all 8 u h in
+    let w : x ≡ 0 ∷ dsfid ∷ window 8 0 u = e ∙ ap (λ (l : List ℕ). 0 ∷ dsfid ∷ l) (sym i) in
+    rw (w, i, o)
+
+pub found-read : (to : Target) (option : Bool) (family : Family) (sixteen : Bool) (bits mask : ℕ) (uid : List ℕ) (n : ℕ) (b : List ℕ)
+    → valid (Inventory to option family sixteen bits mask) n ≡ true → length (part 0 8 b) ≡ 8 → endsIn (part 0 8 b) mask bits ≡ true
+    → readingOf (Inventory to option family sixteen bits mask) uid n (labelAnswer.answerFrame a.Found b) ≡ saidOf (m.Found (getD b 8 0)) (part 0 8 b)
+unfolding labelAnswer.answerFrame shapeOf
+found-read to option family sixteen bits mask uid n b v h o =
+    read-framed (Inventory to option family sixteen bits mask) uid n (0 ∷ getD b 8 0 ∷ part 0 8 b) v (omega arith)
+    ∙ found-bytes _ (part 0 8 b) (getD b 8 0) mask bits h o refl
+
+-- ---- chips
+
+module _ (to : Target) (option : Bool) (uid : List ℕ) (n : ℕ) (b : List ℕ) where
+  pub initiate-read : (id : ℕ) → valid (Chip to option p.Initiate) n ≡ true
+      → readingOf (Chip to option p.Initiate) uid n (chipAnswer.answerFrame (ca.Id id) b) ≡ said (m.Id id)
+  unfolding chipAnswer.answerFrame shapeOf chipReading
+  initiate-read id v = read-framed (Chip to option p.Initiate) uid n (id ∷ []) v (omega arith)
+
+  pub pcall-read : (id : ℕ) → valid (Chip to option p.Pcall) n ≡ true → id % 16 ≡ 0
+      → readingOf (Chip to option p.Pcall) uid n (chipAnswer.answerFrame (ca.Id id) b) ≡ said (m.Id id)
+  unfolding chipAnswer.answerFrame shapeOf chipReading
+  pcall-read id v h = read-framed (Chip to option p.Pcall) uid n (id ∷ []) v (omega arith) ∙ rw (eq-eqb (id % 16) 0 h)
+
+  pub marker-read : (s id : ℕ) → valid (Chip to option (p.Marker s)) n ≡ true → id % 16 ≡ s
+      → readingOf (Chip to option (p.Marker s)) uid n (chipAnswer.answerFrame (ca.Id id) b) ≡ said (m.Id id)
+  unfolding chipAnswer.answerFrame shapeOf chipReading
+  marker-read s id v h = read-framed (Chip to option (p.Marker s)) uid n (id ∷ []) v (omega arith) ∙ rw (eq-eqb (id % 16) s h)
+
+  pub select-read : (id : ℕ) → valid (Chip to option (p.Select id)) n ≡ true
+      → readingOf (Chip to option (p.Select id)) uid n (chipAnswer.answerFrame (ca.Id id) b) ≡ said (m.Id id)
+  unfolding chipAnswer.answerFrame shapeOf chipReading
+  select-read id v = read-framed (Chip to option (p.Select id)) uid n (id ∷ []) v (omega arith) ∙ rw (eq-eqb id id refl)
+
+  pub word-read : (x : ℕ) → valid (Chip to option (p.Read x)) n ≡ true → length b ≡ 80
+      → readingOf (Chip to option (p.Read x)) uid n (chipAnswer.answerFrame (ca.Block x) b) ≡ said (m.Word (num (part (placeOf x) 4 b)))
+  unfolding chipAnswer.answerFrame shapeOf chipReading
+  word-read x v h =
+      let s = part (placeOf x) 4 b in
+      let l : length s ≡ 4 = length-take-le 4 (drop (placeOf x) b) (rw (length-drop (placeOf x) b) (omega (arith, place-fits x))) in
+      read-framed (Chip to option (p.Read x)) uid n s v (omega arith) ∙ rw (eq-eqb (length s) 4 l)
+
+  pub uid-read : valid (Chip to option p.Uid) n ≡ true → length b ≡ 80
+      → readingOf (Chip to option p.Uid) uid n (chipAnswer.answerFrame ca.Uid b) ≡ saidOf m.Uid (part 68 8 b)
+  unfolding chipAnswer.answerFrame shapeOf chipReading
+  uid-read v h =
+      let s = part 68 8 b in
+      let l : length s ≡ 8 = length-take-le 8 (drop 68 b) (rw (length-drop 68 b) (omega arith)) in
+      read-framed (Chip to option p.Uid) uid n s v (omega arith) ∙ rw (eq-eqb (length s) 8 l)

@@ -1,0 +1,132 @@
+-- The ways out of the answer reader's functions that no ladder of tests on numbers closes: where a function called decides, and the arms of
+-- a match, each the definition at that case. Each is a law over plain variables; the set `ways` holds those that a search is to find.
+-- Assumes nothing.
+use mathlib.Core.Path.{_≡_, ap, _∙_}
+use mathlib.Core.Bool.{Bool, true, false, not, _&&_}
+use mathlib.Core.List.{List}
+use Prim.Native.Nat.{ℕ, _-_, _^_, _≤_, _<_}
+use native.Mathlib.Omega.{arith}
+use lib.Dec.{eqb, leb}
+use lib.ListN.{length, getD, take}
+use lib.Seq.{take-all}
+use borrow.Author.Tests.{lt-ltb, le-ltb, eq-eqb, not-true, not-false}
+use Rattle.frame.specs.Number.{num, part, Bytes}
+use Rattle.frame.specs.CheckSum.{right}
+use Rattle.frame.specs.Ending.{endsIn}
+use Rattle.frame.proofs.Numbers.{num-lt}
+use Rattle.frame.proofs.Tests.{tests}
+use Rattle.request.specs.Table.{rowOf, answers}
+use Rattle.request.specs.declared.table.Task.{Task}
+use Rattle.request.specs.declared.table.Row.{Row}
+use Rattle.request.specs.declared.table.Success.{Success}
+use Rattle.request.specs.declared.label.Target.{Target}
+use Rattle.reader.specs.declared.command.ChipTask.{ChipTask}
+use Rattle.reader.specs.declared.command.ChipTask.the-variants as p
+use Rattle.reader.specs.declared.command.Command.{Command}
+use Rattle.reader.specs.declared.answer.Meaning.the-variants as m
+use Rattle.reader.specs.declared.answer.Reading.{Reading}
+use Rattle.reader.specs.Command.{valid}
+use Rattle.reader.specs.Answer.{said, saidOf, isError, owned, infoOf, successOf, labelReading, foundOf, chipReading, shapeOf, readingOf}
+
+-- ---- labels
+
+pub owned-arm : (r : Bool) (to k : Target) (uid u : List ℕ) → to ≡ k → r ≡ owned k uid u → r ≡ owned to uid u
+owned-arm r to k uid u e h = rw e h
+
+module _ (r : Reading) (to : Target) (uid c u : List ℕ) (o b : Bool) (l : length c ≡ 15) (q : u ≡ part 2 8 c) (f : o ≡ owned to uid u)
+    (g : b ≡ (eqb (getD c 0 0) 0 && (eqb (getD c 1 0) 0x0F && (leb (getD c 13 0) 31 && o)))) where
+  pub info-misfit : not b ≡ true → r ≡ said (m.Refused 9) → r ≡ infoOf to uid c
+  unfolding infoOf
+  info-misfit h e = rw (eq-eqb (length c) 15 l, ← q, ← f, ← g, not-true b h) e
+
+  pub info-fit : not b ≡ false → r ≡ saidOf (m.Info (getD c 10 0) (getD c 11 0) (getD c 12 0) (getD c 13 0) (getD c 14 0)) u → r ≡ infoOf to uid c
+  unfolding infoOf
+  info-fit h e = rw (eq-eqb (length c) 15 l, ← q, ← f, ← g, not-false b h) e
+
+pub success-arm : (r : Reading) (to : Target) (option : Bool) (success k : Success) (uid c : List ℕ) → success ≡ k → r ≡ successOf to option k uid c
+    → r ≡ successOf to option success uid c
+success-arm r to option success k uid c e h = rw e h
+
+-- a label's answer: an error, or a success
+module _ (r : Reading) (to : Target) (option : Bool) (task : Task) (uid c : List ℕ) (row : Row) (b : Bool) (f : row ≡ rowOf task)
+    (g : b ≡ (answers (row .success) && isError c)) where
+  pub reading-error : b ≡ true → {code : ℕ} → code ≡ getD c 1 0 → r ≡ said (m.Error code) → r ≡ labelReading to option task uid c
+  unfolding labelReading
+  reading-error h z e = rw (← f, ← g, h, ← z) e
+
+  pub reading-success : b ≡ false → r ≡ successOf to option (row .success) uid c → r ≡ labelReading to option task uid c
+  unfolding labelReading
+  reading-success h e = rw (← f, ← g, h) e
+
+-- to an Inventory
+module _ (r : Reading) (bits mask : ℕ) (c u : List ℕ) (b : Bool) (l : length c ≡ 10) (z : getD c 0 0 ≡ 0) (f : u ≡ part 2 8 c) (g : b ≡ endsIn u mask bits) where
+  pub found-misfit : not b ≡ true → r ≡ said (m.Refused 9) → r ≡ foundOf bits mask c
+  unfolding foundOf
+  found-misfit h e = rw (eq-eqb (length c) 10 l, eq-eqb (getD c 0 0) 0 z, ← f, ← g, not-true b h) e
+
+  pub found-fit : not b ≡ false → r ≡ saidOf (m.Found (getD c 1 0)) u → r ≡ foundOf bits mask c
+  unfolding foundOf
+  found-fit h e = rw (eq-eqb (length c) 10 l, eq-eqb (getD c 0 0) 0 z, ← f, ← g, not-false b h) e
+
+-- ---- chips
+
+pub word-fit : (r : Reading) (a v : ℕ) (c : List ℕ) → length c ≡ 4 → v ≡ num c → r ≡ said (m.Word v) → r ≡ chipReading (p.Read a) c
+unfolding chipReading
+word-fit r a v c h f e = rw (eq-eqb (length c) 4 h, ← f) e
+
+-- four bytes are a number of 32 bits
+pub word-cast : (c : List ℕ) (v : ℕ) → Bytes c → length c ≡ 4 → v ≡ num c → v < 2 ^ 32
+word-cast c v b h e = rw e (num-lt 4 c b (omega arith))
+
+pub uid-fit : (r : Reading) (c u : List ℕ) → length c ≡ 8 → u ≡ part 0 8 c → r ≡ saidOf m.Uid u → r ≡ chipReading p.Uid c
+unfolding chipReading
+uid-fit r c u h f e = rw (eq-eqb (length c) 8 h) (e ∙ ap (saidOf m.Uid) (f ∙ take-all 8 c (omega arith)))
+
+pub chip-arm : (r : Reading) (task k : ChipTask) (c : List ℕ) → task ≡ k → r ≡ chipReading k c → r ≡ chipReading task c
+chip-arm r task k c e h = rw e h
+
+-- ---- any frame
+
+pub shape-arm : (r : Reading) (command k : Command) (uid c : List ℕ) → command ≡ k → r ≡ shapeOf k uid c → r ≡ shapeOf command uid c
+shape-arm r command k uid c e h = rw e h
+
+pub answer-invalid : (r : Reading) (c : Command) (uid f : List ℕ) (n : ℕ) (b : Bool) → b ≡ valid c n → not b ≡ true → r ≡ said (m.Refused 7)
+    → r ≡ readingOf c uid n f
+unfolding readingOf
+answer-invalid r c uid f n b h v e = rw (← h, v) e
+
+module _ (r : Reading) (c : Command) (uid f : List ℕ) (n : ℕ) (b : Bool) (h : b ≡ valid c n) (v : not b ≡ false) where
+  pub answer-short : length f < 3 → r ≡ said (m.Refused 8) → r ≡ readingOf c uid n f
+  unfolding readingOf
+  answer-short l e = rw (← h, v, lt-ltb (length f) 3 l) e
+
+  module _ (l : 3 ≤ length f) (w : Bool) (g : w ≡ right f) where
+    pub answer-wrong : not w ≡ true → r ≡ said (m.Refused 8) → r ≡ readingOf c uid n f
+    unfolding readingOf
+    answer-wrong k e = rw (← h, v, le-ltb (length f) 3 l, ← g, k) e
+
+    pub answer-right : not w ≡ false → r ≡ shapeOf c uid (take (length f - 2 - 0) f) → r ≡ readingOf c uid n f
+    unfolding readingOf
+    answer-right k e =
+        let q : length f - 2 - 0 ≡ length f - 2 = omega arith in
+        rw (← h, v, le-ltb (length f) 3 l, ← g, k) (e ∙ ap (λ (x : ℕ). shapeOf c uid (take x f)) q)
+
+pub ruleset ways = (
+  tests,
+  owned-arm,
+  info-misfit,
+  info-fit,
+  success-arm,
+  reading-error,
+  reading-success,
+  found-misfit,
+  found-fit,
+  word-fit,
+  uid-fit,
+  chip-arm,
+  shape-arm,
+  answer-invalid,
+  answer-short,
+  answer-wrong,
+  answer-right,
+)

@@ -1,0 +1,267 @@
+-- Each answer that some well-formed label gives to a command is read. A label's step is a chain of choices; each end of the chain is silent or
+-- an answer whose reading is known, so the law of the step is the law of its ends.
+-- Assumes nothing.
+use mathlib.Core.Path.{_≡_, refl, sym, ap, subst, _∙_}
+use mathlib.Core.Logic.{_⊎_, inl, inr}
+use mathlib.Core.Bool.{Bool, true, false, not, _&&_, _||_, false≢true}
+use mathlib.Core.List.{List, []}
+use Prim.Native.Nat.{ℕ, zero, suc, _+_, _-_, _/_, _%_, _^_, _≤_, _<_}
+use native.Mathlib.Omega.{arith}
+use lib.Dec.{eqb, ltb}
+use lib.ListN.{length, getD}
+use lib.Seq.{length-take-le}
+use borrow.Author.Tests.{eqb-true, eqb-false, ltb-true, ltb-false}
+use Rattle.frame.specs.Choose.{bit, set?}
+use Rattle.frame.specs.Number.{num, part, Bytes}
+use Rattle.frame.specs.Judge.{fine}
+use Rattle.frame.specs.Ending.{endsIn, endsInSlot}
+use Rattle.frame.specs.declared.verdict.Verdict.{Verdict}
+use Rattle.frame.proofs.Bools.{and-both, eqb-same, if-either}
+use Rattle.request.specs.Table.{rowOf, answers}
+use Rattle.request.specs.declared.table.Task.{Task}
+use Rattle.request.specs.declared.table.Task.the-variants as t
+use Rattle.request.specs.declared.table.Success as row
+use Rattle.request.specs.declared.table.Success.the-variants as s
+use Rattle.request.specs.declared.label.Target.{Target}
+use Rattle.request.specs.declared.label.Target.the-variants.{Everyone, Selected, One}
+use Rattle.request.specs.declared.label.Family.{Family}
+use Rattle.request.specs.declared.label.Family.the-variants.{Only}
+use Rattle.request.specs.declared.label.Call.the-variants as k
+use Rattle.request.specs.declared.label.Request.{Request}
+use Rattle.request.specs.Label.{bare, decode, dataOf}
+use Rattle.label.specs.declared.step.Label.{Label}
+use Rattle.label.specs.declared.step.Answer.{Answer}
+use Rattle.label.specs.declared.step.Answer.the-variants as a
+use Rattle.label.specs.declared.step.Stepped.{Stepped}
+use Rattle.label.specs.Step as steps
+use Rattle.label.specs.Body as label
+use Rattle.label.specs.Answer.{speaks, answerFrame}
+use Rattle.label.specs.Facts.{LabelFine}
+use Rattle.label.specs.Slots.{takesPart, clear, during}
+use Rattle.label.proofs.Fine.{rules-fine}
+use Rattle.label.proofs.Room.{sized-long}
+use Rattle.label.proofs.Slots.{during-uid, first, next-none, step, last, said-none, said-step, said-last}
+use Rattle.reader.specs.declared.command.Command.{Command}
+use Rattle.reader.specs.declared.command.Command.the-variants as c
+use Rattle.reader.specs.declared.answer.Reading.{Reading}
+use Rattle.reader.specs.Command.{valid}
+use Rattle.reader.specs.Request.{parameter, encode, uidMeant, labelMeant}
+use Rattle.reader.specs.Answer.{errorCode, owned, readingOf}
+use Rattle.reader.specs.Tags.{LabelGives, SlotGives, after}
+use Rattle.reader.proofs.CommandValid.{valid-inventory}
+use Rattle.reader.proofs.RequestMeant.{label-meant, inventory-meant}
+use Rattle.reader.proofs.AnswerSuccess.{Success, as-read}
+use Rattle.reader.proofs.AnswerRead.{error-read, done-read, block-read, info-read, found-read}
+
+-- ---- labels
+
+-- what a label can answer to a task with such a success: to is the target, p the task's parameter
+data Given (to : Target) (option : Bool) (p : ℕ) (uid b : List ℕ) : row.Success → Answer → Type 0 where
+  silent : {success : row.Success} → Given to option p uid b success a.Silent
+  error : {success : row.Success} (code : ℕ) → answers success ≡ true → errorCode code ≡ true → Given to option p uid b success (a.Error code)
+  done : Given to option p uid b s.Done a.Done
+  block : p ≤ getD b 11 0 → Given to option p uid b s.Block (a.Block p option)
+  info : owned to uid (part 0 8 b) ≡ true → Given to option p uid b s.Info a.Info
+
+module _ (to : Target) (option : Bool) (p : ℕ) (uid b : List ℕ) where
+  abbrev Gives : Task → Stepped → Type 0
+  Gives task x = Given to option p uid b (rowOf task .success) (x .answer)
+
+  -- who acts on an addressed request is the owner
+  owner : (x : Target) → steps.acts x (uidMeant x uid) (label.loadOf b) ≡ true → owned x uid (part 0 8 b) ≡ true
+  unfolding steps.acts label.loadOf
+  owner Everyone e = refl
+  owner Selected e = refl
+  owner One e = eqb-same (num (part 0 8 b)) (num uid) (num uid) (num (part 0 8 b)) sym sym ∙ e
+
+  performs : (task : Task) (count lock : ℕ) → owned to uid (part 0 8 b) ≡ true
+      → Gives task (steps.perform task p option count lock (steps.ended (label.loadOf b)))
+  unfolding rowOf steps.perform steps.readBlock steps.writeBlock steps.lockBlock steps.writeAfi steps.lockAfi steps.writeDsfid steps.lockDsfid steps.ended label.loadOf errorCode
+  performs t.Quiet count lock o = silent
+  performs t.Read count lock o = if-either (Gives t.Read) (ltb (getD b 11 0) p) _ _ (λ q. error 0x10 refl refl) (λ q. block (ltb-false (getD b 11 0) p q))
+  performs t.Write count lock o =
+      if-either (Gives t.Write) (not (eqb count (getD b 12 0 + 1))) _ _ (λ q. error 0x02 refl refl)
+      (λ q. if-either (Gives t.Write) option _ _ (λ q. error 0x03 refl refl)
+      (λ q. if-either (Gives t.Write) (ltb (getD b 11 0) p) _ _ (λ q. error 0x10 refl refl)
+      (λ q. if-either (Gives t.Write) (eqb lock 1) _ _ (λ q. error 0x12 refl refl) (λ q. done))))
+  performs t.Lock count lock o =
+      if-either (Gives t.Lock) (ltb (getD b 11 0) p) _ _ (λ q. error 0x10 refl refl) (λ q. if-either (Gives t.Lock) (eqb lock 1) _ _ (λ q. error 0x11 refl refl) (λ q. done))
+  performs t.Select count lock o = done
+  performs t.Ready count lock o = done
+  performs t.WriteAfi count lock o = if-either (Gives t.WriteAfi) (set? (bit 0 (getD b 10 0))) _ _ (λ q. error 0x12 refl refl) (λ q. done)
+  performs t.LockAfi count lock o = if-either (Gives t.LockAfi) (set? (bit 0 (getD b 10 0))) _ _ (λ q. error 0x11 refl refl) (λ q. done)
+  performs t.WriteDsfid count lock o = if-either (Gives t.WriteDsfid) (set? (bit 1 (getD b 10 0))) _ _ (λ q. error 0x12 refl refl) (λ q. done)
+  performs t.LockDsfid count lock o = if-either (Gives t.LockDsfid) (set? (bit 1 (getD b 10 0))) _ _ (λ q. error 0x11 refl refl) (λ q. done)
+  performs t.Info count lock o = info o
+
+  asked : (task : Task) (count lock : ℕ)
+      → Gives task (steps.awake (steps.asked to (uidMeant to uid) task p option count lock (label.loadOf b)) (label.loadOf b))
+  unfolding steps.asked steps.passed
+  asked task count lock =
+      let l = label.loadOf b in
+      if-either (Gives task) (eqb (l .state) 0) _ _ (λ q. silent)
+      (λ q. if-either (Gives task) (steps.acts to (uidMeant to uid) l) _ _ (λ w. performs task count lock (owner to w))
+      (λ w. if-either (Gives task) (eqb (rowOf task .code) 0x25 && eqb (steps.ended l .state) 3) _ _ (λ q. silent) (λ q. silent)))
+
+-- the answers that a label gives to what was meant
+said-given : (to : Target) (option : Bool) (task : Task) (p : ℕ) (uid : List ℕ) (count : ℕ) (b : List ℕ)
+    → Given to option (getD (parameter (rowOf task) p) 0 0) uid b (rowOf task .success) (label.saidLabel (labelMeant to option task p uid) count b)
+unfolding label.saidLabel label.stepped steps.act steps.called labelMeant
+said-given to option task p uid count b = asked to option (getD (parameter (rowOf task) p) 0 0) uid b task count _
+
+-- each of them is read
+given-read : (to : Target) (option : Bool) (task : Task) (p q : ℕ) (uid : List ℕ) (n : ℕ) (b : List ℕ) → valid (c.Label to option task p) n ≡ true → LabelFine b
+    → (success : row.Success) (x : Answer) → rowOf task .success ≡ success → Given to option q uid b success x → speaks x ≡ true
+    → Success (readingOf (c.Label to option task p) uid n (answerFrame x b))
+given-read to option task p q uid n b v ok success x e silent w = absurd (false≢true w)
+given-read to option task p q uid n b v ok success x e (error code h z) w =
+    as-read _ _ (error-read to option task p uid n v code b (ap answers e ∙ h) z) refl
+given-read to option task p q uid n b v ok success x e done w = as-read _ _ (done-read to option task p uid n v b e) refl
+given-read to true task p q uid n b v ok success x e (block h) w = as-read _ _ (block-read to true task p uid n v q b ok h e) refl
+given-read to false task p q uid n b v ok success x e (block h) w = as-read _ _ (block-read to false task p uid n v q b ok h e) refl
+given-read to option task p q uid n b v ok success x e (info o) w = as-read _ _ (info-read to option task p uid n v b ok o e) refl
+
+-- a body that keeps to the rules
+fine-body : (b : List ℕ) → Bytes b → label.labelRules b ≡ fine → LabelFine b
+fine-body b bs e = rules-fine b bs (ap (λ (x : Verdict). x .number) e)
+
+-- what a well-formed label answers to a label command is read
+pub label-gives : (to : Target) (option : Bool) (task : Task) (p : ℕ) (uid d g : List ℕ) → valid (c.Label to option task p) (length d) ≡ true → length uid ≡ 8
+    → LabelGives (encode (c.Label to option task p) uid d) g → Success (readingOf (c.Label to option task p) uid (length d) g)
+label-gives to option task p uid d g v h y =
+    let f = encode (c.Label to option task p) uid d in
+    let b = y .body in
+    let q = getD (parameter (rowOf task) p) 0 0 in
+    let w =
+    subst (λ (r : Request). Given to option q uid b (rowOf task .success) (label.saidLabel r (length (dataOf f)) b)) (sym (label-meant to option task p uid d v h))
+    (said-given to option task p uid (length (dataOf f)) b)
+    in
+    subst (λ (x : List ℕ). Success (readingOf (c.Label to option task p) uid (length d) x)) (y .says)
+    (given-read to option task p q uid (length d) b v (fine-body b (y .bytes) (y .wellFormed)) _ _ refl w (y .speaks))
+
+-- ---- Inventory
+uid-long : (b : List ℕ) → LabelFine b → length (part 0 8 b) ≡ 8
+uid-long b ok = length-take-le 8 b (omega (arith, sized-long b (ok .sized)))
+
+module _ (to : Target) (option : Bool) (family : Family) (sixteen : Bool) (bits mask : ℕ) (uid : List ℕ) (n : ℕ)
+    (v : valid (c.Inventory to option family sixteen bits mask) n ≡ true) (b : List ℕ) where
+  -- an answer of b that, where it speaks, is read
+  abbrev Found : Answer → Type 0
+  Found x = speaks x ≡ true → Success (readingOf (c.Inventory to option family sixteen bits mask) uid n (answerFrame x b))
+
+  none-found : Found a.Silent
+  none-found s = absurd (false≢true s)
+
+  one-found : length (part 0 8 b) ≡ 8 → endsIn (part 0 8 b) mask bits ≡ true → Found a.Found
+  one-found l e s = as-read _ _ (found-read to option family sixteen bits mask uid n b v l e) refl
+
+  call-found : (count : ℕ) → length (part 0 8 b) ≡ 8 → Found (label.saidLabel (bare (k.Inventory family sixteen bits mask)) count b)
+  unfolding label.saidLabel label.stepped steps.act steps.called steps.inventory steps.heeds steps.opens steps.turn steps.ended label.loadOf endsInSlot
+  call-found count h =
+      let l = label.loadOf b in
+      let P : Stepped → Type 0 = λ x. Found (x .answer) in
+      if-either P (eqb (getD b 14 0) 0) _ _ (λ q. none-found)
+      (λ q. if-either P (steps.ready l && steps.passes family (getD b 9 0)) _ _ (λ q. opened sixteen) (λ q. none-found))
+    where
+      opened : (x : Bool) → Found (steps.opens x bits mask (steps.ended (label.loadOf b)) .answer)
+      opened true =
+          if-either (λ (x : Stepped). Found (x .answer)) (endsIn (part 0 8 b) mask bits && eqb (num (part 0 8 b) / 2 ^ bits % 16) 0) _ _
+          (λ q. one-found h (and-both (endsIn (part 0 8 b) mask bits) (eqb (num (part 0 8 b) / 2 ^ bits % 16) 0) q .0)) (λ q. none-found)
+      opened false = if-either (λ (x : Stepped). Found (x .answer)) (endsIn (part 0 8 b) mask bits) _ _ (λ q. one-found h q) (λ q. none-found)
+
+-- what a well-formed label answers to an Inventory is read
+pub inventory-gives : (to : Target) (option : Bool) (family : Family) (sixteen : Bool) (bits mask : ℕ) (uid d g : List ℕ)
+    → valid (c.Inventory to option family sixteen bits mask) (length d) ≡ true → LabelGives (encode (c.Inventory to option family sixteen bits mask) uid d) g
+    → Success (readingOf (c.Inventory to option family sixteen bits mask) uid (length d) g)
+inventory-gives to option family sixteen bits mask uid d g v y =
+    let f = encode (c.Inventory to option family sixteen bits mask) uid d in
+    let b = y .body in
+    let n = length (dataOf f) in
+    let P = Found to option family sixteen bits mask uid (length d) v b in
+    let w : P (label.saidLabel (decode f) n b) =
+    subst (λ (r : Request). P (label.saidLabel r n b)) (sym (inventory-meant to option family sixteen bits mask uid d v))
+    (call-found to option family sixteen bits mask uid (length d) v b n (uid-long b (fine-body b (y .bytes) (y .wellFormed))))
+    in
+    subst (λ (x : List ℕ). Success (readingOf (c.Inventory to option family sixteen bits mask) uid (length d) x)) (y .says) (w (y .speaks))
+
+-- ---- later slots
+
+abbrev next : List ℕ → List ℕ
+next x = label.nextLabel (bare k.EndOfFrame) [] x
+
+module _ (f : List ℕ) (family : Family) (bits mask : ℕ) (b : List ℕ) (bs : Bytes b) (ok : LabelFine b) (hb : bits ≤ 60) (hm : mask < 2 ^ bits)
+    (q : decode f ≡ bare (k.Inventory family true bits mask)) where
+  -- the body after an Inventory and n ends of frame is in slot n
+  pub after-slot : (n : ℕ) → n ≤ 15 → after f b n ≡ during family bits mask n b
+  unfolding after
+  after-slot zero h = ap (λ (r : Request). label.nextLabel r (dataOf f) b) q ∙ first family bits mask (dataOf f) b bs ok
+  after-slot (suc n) h = ap next (after-slot n (omega arith)) ∙ step family bits mask b ok hb hm n [] (omega arith)
+
+  -- with more of them the sequence has ended
+  after-ended : (n : ℕ) → after f b (n + 16) ≡ clear b
+  unfolding after
+  after-ended zero = ap next (after-slot 15 (omega arith)) ∙ last family bits mask b ok hb hm []
+  after-ended (suc n) =
+      let e : suc n + 16 ≡ suc (n + 16) = omega arith in
+      rw e (ap next (after-ended n) ∙ next-none family bits mask b ok hb hm [])
+
+-- what is said there: in a slot below 15 Found, where the UID ends in the mask with the next slot above it; else nothing
+module _ (to : Target) (option : Bool) (family : Family) (bits mask : ℕ) (uid : List ℕ) (n : ℕ)
+    (v : valid (c.Inventory to option family true bits mask) n ≡ true) (b : List ℕ) (ok : LabelFine b) where
+  abbrev Later : List ℕ → Type 0
+  Later x = Found to option family true bits mask uid n v x (label.saidLabel (bare k.EndOfFrame) 0 x)
+
+  nothing-said : (x : List ℕ) → label.saidLabel (bare k.EndOfFrame) 0 x ≡ a.Silent → Later x
+  nothing-said x e = subst (Found to option family true bits mask uid n v x) (sym e) (none-found to option family true bits mask uid n v x)
+
+  facts : (bits ≤ 60) × (mask < 2 ^ bits)
+  facts = let i = valid-inventory to option family true bits mask n v in (i .short, i .low)
+
+  slot-said : (s : ℕ) → s < 15 → Later (during family bits mask s b)
+  unfolding endsInSlot
+  slot-said s h =
+      subst P (sym (said-step family bits mask b ok (facts .0) (facts .1) s 0 h))
+      (if-either P (takesPart family b && endsInSlot (part 0 8 b) mask bits (suc s)) _ _ found (λ q. none-found to option family true bits mask uid n v x))
+    where
+      x : List ℕ
+      x = during family bits mask s b
+
+      P : Answer → Type 0
+      P = Found to option family true bits mask uid n v x
+
+      found : (takesPart family b && endsInSlot (part 0 8 b) mask bits (suc s)) ≡ true → P a.Found
+      found q =
+          let u = during-uid family bits mask s b in
+          let w = and-both (takesPart family b) (endsInSlot (part 0 8 b) mask bits (suc s)) q .1 in
+          let i = and-both (endsIn (part 0 8 b) mask bits) (eqb (num (part 0 8 b) / 2 ^ bits % 16) (suc s)) w .0 in
+          one-found to option family true bits mask uid n v x (ap length u ∙ uid-long b ok) (ap (λ (l : List ℕ). endsIn l mask bits) u ∙ i)
+
+  last-said : Later (during family bits mask 15 b)
+  last-said = nothing-said (during family bits mask 15 b) (said-last family bits mask b ok (facts .0) (facts .1) 0)
+
+  clear-said : Later (clear b)
+  clear-said = nothing-said (clear b) (said-none family bits mask b ok (facts .0) (facts .1) 0)
+
+  after-said : (f : List ℕ) → Bytes b → decode f ≡ bare (k.Inventory family true bits mask) → (m : ℕ) → Later (after f b m)
+  after-said f bs q m = go (ltb m 15) (eqb m 15) refl refl
+    where
+      go : (x y : Bool) → ltb m 15 ≡ x → eqb m 15 ≡ y → Later (after f b m)
+      go true y i j =
+          let h = ltb-true m 15 i in
+          subst Later (sym (after-slot f family bits mask b bs ok (facts .0) (facts .1) q m (omega arith))) (slot-said m h)
+      go false true i j =
+          let e = eqb-true m 15 j in
+          rw e (subst Later (sym (after-slot f family bits mask b bs ok (facts .0) (facts .1) q 15 (omega arith))) last-said)
+      go false false i j =
+          let e : m ≡ m - 16 + 16 = let h = ltb-false m 15 i in let z = eqb-false m 15 j in omega arith in
+          rw e (subst Later (sym (after-ended f family bits mask b bs ok (facts .0) (facts .1) q (m - 16))) clear-said)
+
+-- what a well-formed label answers in a later slot of a sixteen-slot Inventory is read
+pub slot-gives : (to : Target) (option : Bool) (family : Family) (bits mask : ℕ) (uid d g : List ℕ)
+    → valid (c.Inventory to option family true bits mask) (length d) ≡ true → SlotGives (encode (c.Inventory to option family true bits mask) uid d) g
+    → Success (readingOf (c.Inventory to option family true bits mask) uid (length d) g)
+slot-gives to option family bits mask uid d g v y =
+    let f = encode (c.Inventory to option family true bits mask) uid d in
+    let ok = fine-body (y .body) (y .bytes) (y .wellFormed) in
+    let w = after-said to option family bits mask uid (length d) v (y .body) ok f (y .bytes) (inventory-meant to option family true bits mask uid d v) (y .n) in
+    subst (λ (x : List ℕ). Success (readingOf (c.Inventory to option family true bits mask) uid (length d) x)) (y .says) (w (y .speaks))

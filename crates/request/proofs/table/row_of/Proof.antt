@@ -1,0 +1,34 @@
+-- A task's arm: its row, as it stands.
+-- Assumes nothing.
+use borrow.Author.Needs.{needs}
+use Rattle.request.specs.Table.{rowOf}
+use Rattle.request.proofs.table.row_of.Statement.{statement}
+use Rattle.request.proofs.table.row_of.Tie as tie
+
+pub row-of-spec : {M : Type 1} → statement M
+unfolding rowOf
+row-of-spec =
+    tie.close
+    (tie.spec
+    (λ c. search needs)
+    (λ c. search needs)
+    (λ c. search needs)
+    (λ c. search needs)
+    (λ c. search needs)
+    (λ c. search needs)
+    (λ c. search needs)
+    (λ c. search needs)
+    (λ c. search needs)
+    (λ c. search needs)
+    (λ c. search needs)
+    (λ c. rw (c .enum-told .given .1))
+    (λ c. rw (c .enum-told2 .given .1))
+    (λ c. rw (c .enum-told3 .given .1))
+    (λ c. rw (c .enum-told4 .given .1))
+    (λ c. rw (c .enum-told5 .given .1))
+    (λ c. rw (c .enum-told6 .given .1))
+    (λ c. rw (c .enum-told7 .given .1))
+    (λ c. rw (c .enum-told8 .given .1))
+    (λ c. rw (c .enum-told9 .given .1))
+    (λ c. rw (c .enum-told10 .given .1))
+    (λ c. rw (c .enum-told11 .given .1)))
