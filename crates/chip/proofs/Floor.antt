@@ -28,11 +28,11 @@ use Rattle.chip.specs.declared.step.Stepped.{Stepped}
 use Rattle.request.specs.Chip.{heard}
 use Rattle.chip.specs.Write.{locked, written, countDown, lockDown}
 use Rattle.chip.specs.Step.{act, select, leave}
-use Rattle.chip.specs.Body.{loadOf, storeOf, placeOf, blockAt, worked, stepped, nextChip, saidChip}
-use Rattle.chip.proofs.Shapes.{place-fits}
-use Rattle.chip.proofs.Steps.{Next}
-use Rattle.chip.proofs.Bodies.{place-low, place-high, store-length, store-off, store-part, store-reload, store-load, work-off, next-by}
-use Rattle.chip.proofs.Keeps.{ChipFine, written-high}
+use Rattle.chip.specs.Body.{loadOf, storeOf, placeOf, blockOf, worked, stepped, nextChip, saidChip}
+use Rattle.chip.proofs.BodyShapes.{place-fits}
+use Rattle.chip.proofs.StepWays.{Next}
+use Rattle.chip.proofs.BodyStored.{place-low, place-high, store-length, store-off, store-part, store-reload, store-load, work-off, next-by}
+use Rattle.chip.proofs.BodyKeeps.{ChipFine, written-high}
 
 -- ---- what no step writes
 
@@ -40,7 +40,7 @@ pub uid-stays : (order : Order) (d : ℕ) (b : List ℕ) → length b ≡ 80 →
 uid-stays order d b l =
     next-by (λ (x : List ℕ). part 68 8 x ≡ part 68 8 b) order d b (λ c k. store-part b c 68 8 (omega arith))
     (λ m v c q k n.
-    part-off (storeOf b c) (bytesOf 4 (written m (blockAt m b) v (getD b 78 0))) (placeOf m) 68 8 (inr (place-fits m))
+    part-off (storeOf b c) (bytesOf 4 (written m (blockOf m b) v (getD b 78 0))) (placeOf m) 68 8 (inr (place-fits m))
     ∙ store-part b c 68 8 (omega arith))
 
 -- the fixed-ID option is no step's to change; a statement for the reader of document 01, which nothing cites
@@ -64,10 +64,10 @@ apart m n h z =
     (λ (p : 16 ≤ m). inl (omega (arith, place-high m p, place-low n h)))
     (below-or-not m 16)
 
-block-on : (n v : ℕ) (x : List ℕ) → 68 ≤ length x → blockAt n (sets x (placeOf n) (bytesOf 4 v)) ≡ num (bytesOf 4 v)
+block-on : (n v : ℕ) (x : List ℕ) → 68 ≤ length x → blockOf n (sets x (placeOf n) (bytesOf 4 v)) ≡ num (bytesOf 4 v)
 block-on n v x l = ap num (part-on x (bytesOf 4 v) (placeOf n) (omega (arith, place-fits n)))
 
-block-store : (n : ℕ) (b : List ℕ) (c : Chip) → length b ≡ 80 → blockAt n (storeOf b c) ≡ blockAt n b
+block-store : (n : ℕ) (b : List ℕ) (c : Chip) → length b ≡ 80 → blockOf n (storeOf b c) ≡ blockOf n b
 block-store n b c l = ap num (store-part b c (placeOf n) 4 (omega (arith, place-fits n)))
 
 -- the lock word only falls
@@ -77,25 +77,25 @@ lock-le s v = omega (arith, and-le-l (s / 2 ^ 16) (v / 2 ^ 16))
 
 module _ (P : ℕ → Type 0) (order : Order) (d : ℕ) (b : List ℕ) (l : length b ≡ 80) where
   -- blocks 0 to 15
-  block-next : (n : ℕ) → n < 16 → P (blockAt n b)
-      → ((v : ℕ) → order ≡ o.Write n v → locked (num (part 64 4 b)) n ≡ false → P (num (bytesOf 4 (written n (blockAt n b) v (getD b 78 0)))))
-      → P (blockAt n (nextChip order d b))
+  block-next : (n : ℕ) → n < 16 → P (blockOf n b)
+      → ((v : ℕ) → order ≡ o.Write n v → locked (num (part 64 4 b)) n ≡ false → P (num (bytesOf 4 (written n (blockOf n b) v (getD b 78 0)))))
+      → P (blockOf n (nextChip order d b))
   block-next n h f g =
-      next-by (λ (x : List ℕ). P (blockAt n x)) order d b (λ c k. subst P (sym (block-store n b c l)) f) put
+      next-by (λ (x : List ℕ). P (blockOf n x)) order d b (λ c k. subst P (sym (block-store n b c l)) f) put
     where
       put : (m v : ℕ) (c : Chip) → order ≡ o.Write m v → locked (num (part 64 4 b)) m ≡ false → Next d (loadOf b) c
-          → P (blockAt n (sets (storeOf b c) (placeOf m) (bytesOf 4 (written m (blockAt m b) v (getD b 78 0)))))
+          → P (blockOf n (sets (storeOf b c) (placeOf m) (bytesOf 4 (written m (blockOf m b) v (getD b 78 0)))))
       put m v c q k z =
           let len : 68 ≤ length (storeOf b c) = rw (store-length b c) (omega arith) in
           ⊎-elim
           (λ (e : m ≡ n).
           rw e
-          (subst P (sym (block-on n (written n (blockAt n b) v (getD b 78 0)) (storeOf b c) len)) (g v (rw e at q) (rw e at k))))
+          (subst P (sym (block-on n (written n (blockOf n b) v (getD b 78 0)) (storeOf b c) len)) (g v (rw e at q) (rw e at k))))
           (λ (e : m ≡ n → ⊥).
           subst P
           (sym
           (ap num
-          (part-off (storeOf b c) (bytesOf 4 (written m (blockAt m b) v (getD b 78 0))) (placeOf m) (placeOf n) 4 (apart m n h e))
+          (part-off (storeOf b c) (bytesOf 4 (written m (blockOf m b) v (getD b 78 0))) (placeOf m) (placeOf n) 4 (apart m n h e))
           ∙ block-store n b c l))
           f)
           (same-or-not m n)
@@ -110,12 +110,12 @@ module _ (P : ℕ → Type 0) (order : Order) (d : ℕ) (b : List ℕ) (l : leng
       subst P
       (sym
       (ap num
-      (part-off (storeOf b c) (bytesOf 4 (written m (blockAt m b) v (getD b 78 0))) (placeOf m) 64 4 (inr (omega (arith, place-low m h))))
+      (part-off (storeOf b c) (bytesOf 4 (written m (blockOf m b) v (getD b 78 0))) (placeOf m) 64 4 (inr (omega (arith, place-low m h))))
       ∙ stays c))
       f)
       (λ (h : 16 ≤ m).
-      let w : written m (blockAt m b) v (getD b 78 0) ≡ lockDown (num (part 64 4 b)) v
-      = written-high m (blockAt m b) v (getD b 78 0) h ∙ ap (λ (p : ℕ). lockDown (num (part p 4 b)) v) (place-high m h) in
+      let w : written m (blockOf m b) v (getD b 78 0) ≡ lockDown (num (part 64 4 b)) v
+      = written-high m (blockOf m b) v (getD b 78 0) h ∙ ap (λ (p : ℕ). lockDown (num (part p 4 b)) v) (place-high m h) in
       rw (w, place-high m h)
       (subst P
       (sym
@@ -148,11 +148,11 @@ unfolding countDown
 count-one old v = if-either (λ (x : ℕ). (x ≡ v) ⊎ (x ≡ old)) (ltb v old) v old (λ e. inl refl) (λ e. inr refl)
 
 pub counter-falls : (order : Order) (d : ℕ) (b : List ℕ) (n : ℕ) → (n ≡ 5) ⊎ (n ≡ 6) → length b ≡ 80
-    → blockAt n (nextChip order d b) ≤ blockAt n b
+    → blockOf n (nextChip order d b) ≤ blockOf n b
 counter-falls order d b n h l =
-    block-next (λ (x : ℕ). x ≤ blockAt n b) order d b l n (count-below n h) (omega arith)
-    (λ v q k. let w = written n (blockAt n b) v (getD b 78 0) in
-    omega (arith, num-bytes 4 w, written-count n (blockAt n b) v (getD b 78 0) h, count-le (blockAt n b) v))
+    block-next (λ (x : ℕ). x ≤ blockOf n b) order d b l n (count-below n h) (omega arith)
+    (λ v q k. let w = written n (blockOf n b) v (getD b 78 0) in
+    omega (arith, num-bytes 4 w, written-count n (blockOf n b) v (getD b 78 0) h, count-le (blockOf n b) v))
 
 -- the block that a write carries
 abbrev sent : Order → ℕ
@@ -171,11 +171,11 @@ sent (o.Write n v) = v
 
 -- set, and not lowered by what is written: it becomes w, or stays
 pub counter-set : (w d : ℕ) (b : List ℕ) (n : ℕ) → (n ≡ 5) ⊎ (n ≡ 6) → length b ≡ 80 → Bytes b
-    → (blockAt n (nextChip (o.Write n w) d b) ≡ w) ⊎ (blockAt n (nextChip (o.Write n w) d b) ≡ blockAt n b)
+    → (blockOf n (nextChip (o.Write n w) d b) ≡ w) ⊎ (blockOf n (nextChip (o.Write n w) d b) ≡ blockOf n b)
 counter-set w d b n h l bs =
-    block-next (λ (x : ℕ). (x ≡ w) ⊎ (x ≡ blockAt n b)) (o.Write n w) d b l n (count-below n h) (inr refl)
+    block-next (λ (x : ℕ). (x ≡ w) ⊎ (x ≡ blockOf n b)) (o.Write n w) d b l n (count-below n h) (inr refl)
     (λ v q k.
-    let old = blockAt n b in
+    let old = blockOf n b in
     let e : w ≡ v = ap sent q in
     let z : countDown old v < 2 ^ 32 = omega (arith, count-le old v, word-lt (placeOf n) b bs) in
     let y : num (bytesOf 4 (written n old v (getD b 78 0))) ≡ countDown old v
@@ -189,9 +189,9 @@ unfolding locked
 locked-below s n h = ltb-true n 16 (and-both (ltb n 16) (eqb (bit (16 + n) s) 0) h .0)
 
 pub locked-stays : (order : Order) (d : ℕ) (b : List ℕ) (n : ℕ) → length b ≡ 80 → locked (num (part 64 4 b)) n ≡ true
-    → blockAt n (nextChip order d b) ≡ blockAt n b
+    → blockOf n (nextChip order d b) ≡ blockOf n b
 locked-stays order d b n l h =
-    block-next (λ (x : ℕ). x ≡ blockAt n b) order d b l n (locked-below (num (part 64 4 b)) n h) refl
+    block-next (λ (x : ℕ). x ≡ blockOf n b) order d b l n (locked-below (num (part 64 4 b)) n h) refl
     (λ v q k. absurd (false≢true (sym k ∙ h)))
 
 -- a lock stays: a bit of the lock word at 0 is 0 after every write
@@ -234,11 +234,11 @@ written-down n old v r h z = rw (lt-ltb n 5 h, ne-eqb r 1 z)
 
 -- without reload no bit goes from 0 to 1
 pub only-down : (order : Order) (d : ℕ) (b : List ℕ) (n : ℕ) → n < 5 → (getD b 78 0 ≡ 1 → ⊥) → length b ≡ 80 → Bytes b
-    → bitAnd (blockAt n b) (blockAt n (nextChip order d b)) ≡ blockAt n (nextChip order d b)
+    → bitAnd (blockOf n b) (blockOf n (nextChip order d b)) ≡ blockOf n (nextChip order d b)
 only-down order d b n h z l bs =
-    block-next (λ (x : ℕ). bitAnd (blockAt n b) x ≡ x) order d b l n (omega arith) (and-self (blockAt n b))
+    block-next (λ (x : ℕ). bitAnd (blockOf n b) x ≡ x) order d b l n (omega arith) (and-self (blockOf n b))
     (λ v q k.
-    let old = blockAt n b in
+    let old = blockOf n b in
     let y : num (bytesOf 4 (written n old v (getD b 78 0))) ≡ bitAnd old v
     = ap (λ (x : ℕ). num (bytesOf 4 x)) (written-down n old v (getD b 78 0) h z)
     ∙ num-bytes-lt 4 (bitAnd old v) (omega (arith, and-le-l old v, word-lt (placeOf n) b bs)) in

@@ -1,7 +1,7 @@
 -- The laws of a chip, for its own proofs and for those of the crates above.
-pub mod Shapes
-pub mod Steps
-pub mod Bodies
-pub mod Keeps
-pub mod Answers
+pub mod BodyShapes
+pub mod StepWays
+pub mod BodyStored
+pub mod BodyKeeps
+pub mod AnswerFrames
 pub mod Floor

@@ -39,8 +39,8 @@ chipRules b =
 unfoldable pub placeOf : ℕ → ℕ
 placeOf n = if ltb n 16 then 4 * n else 64
 
-abbrev pub blockAt : ℕ → List ℕ → ℕ
-blockAt n b = num (part (placeOf n) 4 b)
+abbrev pub blockOf : ℕ → List ℕ → ℕ
+blockOf n b = num (part (placeOf n) 4 b)
 
 -- the block that an order writes to
 unfoldable pub named : Order → List ℕ → ℕ
@@ -55,7 +55,7 @@ named o.Completion b = 0
 named o.Reset b = 0
 named (o.Read n) b = 0
 named o.Uid b = 0
-named (o.Write n v) b = blockAt n b
+named (o.Write n v) b = blockOf n b
 
 unfoldable pub worked : Work → List ℕ → List ℕ
 worked w.Nothing b = b

@@ -23,12 +23,12 @@ abbrev pub told : Answer → Chip → Stepped
 told answer c = record { next = c; answer = answer; work = w.Nothing }
 
 -- off puts a tag in state 0 and clears Chip_ID and reload
-unfoldable pub off : Chip → Stepped
-off c = silent (with 0 0 0 c)
+unfoldable pub fieldOff : Chip → Stepped
+fieldOff c = silent (with 0 0 0 c)
 
 -- on moves state 0 to ready and gives a Chip_ID: the draw, or byte 64 with the option
-unfoldable pub on : ℕ → Chip → Stepped
-on d c =
+unfoldable pub fieldOn : ℕ → Chip → Stepped
+fieldOn d c =
     if not (eqb (c .state) 0) then silent c
     else silent (with 1 (if eqb (c .fixed) 1 then c .own else d) (c .reload) c)
 
@@ -88,8 +88,8 @@ write n v old s c =
 -- old is the block that a write names, s is block 255; 0F: 3 to 5; 0C: 3 to 2
 unfoldable pub act : Order → ℕ → ℕ → ℕ → Chip → Stepped
 act o.Ignored d old s c = silent c
-act o.Off d old s c = off c
-act o.On d old s c = on d c
+act o.Off d old s c = fieldOff c
+act o.On d old s c = fieldOn d c
 act o.Initiate d old s c = initiate d c
 act o.Pcall d old s c = pcall d c
 act (o.Marker n) d old s c = marker n c

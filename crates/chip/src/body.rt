@@ -16,7 +16,7 @@ ghost use lib.Dec.{eqb, ltb};
 ghost use Prim.Native.Nat.{_≤_};
 ghost use lib.ListN.{length};
 ghost use Rattle.frame.specs.Number.{part};
-ghost use Rattle.chip.specs.Body.{chipRules, loadOf, storeOf, placeOf, blockAt, named, worked, stepped, nextChip, saidChip};
+ghost use Rattle.chip.specs.Body.{chipRules, loadOf, storeOf, placeOf, blockOf, named, worked, stepped, nextChip, saidChip};
 
 // In state 0 Chip_ID is 0.
 fn wrong_id(state: u8, id: u8) -> bool
@@ -119,7 +119,7 @@ pub fn place(a: u8) -> usize
 // Block a.
 pub fn block_of(b: &[u8], a: u8) -> u32
     requires { ⌜ 80 ≤ length (now b) ⌝ }
-    ensures { λ r. ⌜ r ≡ blockAt a (now (b .entry)) ⌝ }
+    ensures { λ r. ⌜ r ≡ blockOf a (now (b .entry)) ⌝ }
 {
     word_at(b, place(a))
 }

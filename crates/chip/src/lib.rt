@@ -1,4 +1,4 @@
-// One SRI512 chip: what an event asks of it, what it does and answers, and its body's bytes and rules.
+// One SRI512 chip: what it does with an order and answers, and its body's bytes and rules.
 pub mod answer;
 pub mod body;
 pub mod step;

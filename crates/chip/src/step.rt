@@ -3,7 +3,7 @@ use request::chip::Order;
 ghost use mathlib.Core.Path.{_≡_};
 ghost use mathlib.Core.Bool.{_||_};
 ghost use lib.Dec.{eqb};
-ghost use Rattle.chip.specs.Step.{silent, told, chosen, off, on, initiate, pcall, marker, select, leave, read, uid, write, act};
+ghost use Rattle.chip.specs.Step.{silent, told, chosen, fieldOff, fieldOn, initiate, pcall, marker, select, leave, read, uid, write, act};
 ghost use Rattle.chip.specs.Write.{countDown, lockDown, locked, reloads, written};
 
 // The part of a chip that steps: byte 64 is own.
@@ -112,8 +112,8 @@ impl Chip {
         }
     }
 
-    fn off(self) -> Stepped
-        ensures { λ r. ⌜ r ≡ off self ⌝ }
+    fn field_off(self) -> Stepped
+        ensures { λ r. ⌜ r ≡ fieldOff self ⌝ }
     {
         let next = Chip {
             state: 0,
@@ -124,8 +124,8 @@ impl Chip {
         next.silent()
     }
 
-    fn on(self, draw: u8) -> Stepped
-        ensures { λ r. ⌜ r ≡ on draw self ⌝ }
+    fn field_on(self, draw: u8) -> Stepped
+        ensures { λ r. ⌜ r ≡ fieldOn draw self ⌝ }
     {
         if self.state != 0 {
             return self.silent();
@@ -305,8 +305,8 @@ impl Chip {
     {
         match order {
             Order::Ignored => self.silent(),
-            Order::Off => self.off(),
-            Order::On => self.on(draw),
+            Order::Off => self.field_off(),
+            Order::On => self.field_on(draw),
             Order::Initiate => self.initiate(draw),
             Order::Pcall => self.pcall(draw),
             Order::Marker(n) => self.marker(n),

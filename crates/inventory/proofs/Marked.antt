@@ -25,7 +25,7 @@ use Rattle.request.specs.declared.label.Family.the-variants.{Any}
 use Rattle.rack.specs.File.{startOf, kindOf, headVerdict, lengthFits, entryVerdict, bodyRules, moved, bodyVerdict, endVerdict, verdictOf}
 use Rattle.inventory.specs.Endings.{count, keepIf, keep, different, ending, sumTo, shared}
 use Rattle.inventory.specs.Walk.{uidAt, uidsTo, uids, anyOf, twins, refusalOf, walkOf}
-use Rattle.inventory.proofs.Sums.{sum-ext}
+use Rattle.inventory.proofs.EndingsSums.{sum-ext}
 use Rattle.inventory.proofs.Promise.{walk-carried, promise}
 
 -- ---- on UIDs

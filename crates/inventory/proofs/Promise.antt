@@ -20,14 +20,14 @@ use Rattle.inventory.specs.Endings.{count, sumTo, shared}
 use Rattle.inventory.specs.Walk.{Trip, explore, depth, uids, twins, refusalOf, refused, carried, walkOf, cleared}
 use Rattle.inventory.specs.Numbers.{listOf, roundsOf}
 use Rattle.inventory.specs.Promise.{flat, Promise}
-use Rattle.inventory.proofs.Twice.{Distinct}
-use Rattle.inventory.proofs.Walks.{all-end, listing, lists-each, as-long, rounds-16, rounds-16-bound}
-use Rattle.inventory.proofs.Flat.{flat-length}
-use Rattle.rack.proofs.Verdicts.{rack-fine}
-use Rattle.inventory.proofs.Events.{Fine}
-use Rattle.inventory.proofs.Uids.{uids-below, some-distinct}
-use Rattle.inventory.proofs.Bridge.{branch-list, branch-rounds, told, start-good, cleared-good}
-use Rattle.inventory.proofs.Repeated.{twins-none}
+use Rattle.inventory.proofs.EndingsTwice.{Distinct}
+use Rattle.inventory.proofs.EndingsWalks.{all-end, listing, lists-each, as-long, rounds-16, rounds-16-bound}
+use Rattle.inventory.proofs.PromiseFlat.{flat-length}
+use Rattle.rack.proofs.FileVerdict.{rack-fine}
+use Rattle.inventory.proofs.WalkEvents.{Fine}
+use Rattle.inventory.proofs.WalkUids.{uids-below, some-distinct}
+use Rattle.inventory.proofs.WalkBridge.{branch-list, branch-rounds, told, start-good, cleared-good}
+use Rattle.inventory.proofs.NumbersRepeated.{twins-none}
 
 -- ---- the walk of a well-formed rack without twins
 

@@ -73,14 +73,14 @@ unfoldable pub start : Hearing → Trip
 start h = record { rack = h .rack; found = h .found; rounds = 1 }
 
 module _ (sub : List ℕ → ℕ → Trip) (heard : List ℕ) (bits mask : ℕ) where
-  unfoldable pub turn : Bool → ℕ → Trip → Trip
-  turn true s t = join t (sub (t .rack) (longer mask bits s))
-  turn false s t = t
+  unfoldable pub visit : Bool → ℕ → Trip → Trip
+  visit true s t = join t (sub (t .rack) (longer mask bits s))
+  visit false s t = t
 
   -- the collided slots below s carried through
   unfoldable pub upto : ℕ → List ℕ → Trip
   upto zero rack = record { rack = rack; found = []; rounds = 0 }
-  upto (suc s) rack = turn (ltb 1 (getD heard s 0)) s (upto s rack)
+  upto (suc s) rack = visit (ltb 1 (getD heard s 0)) s (upto s rack)
 
 -- rounds that a mask of so many bits may yet go down: past 60 bits there is none
 unfoldable pub depth : ℕ → ℕ

@@ -3,7 +3,7 @@
 use mathlib.Core.Path.{_≡_, refl, sym, ap, _∙_}
 use mathlib.Core.Logic.{inl, inr, ⊎-elim}
 use mathlib.Core.Bool.{Bool, true}
-use mathlib.Core.List.{List, [], _∷_}
+use mathlib.Core.List.{List}
 use Prim.Native.Nat.{ℕ, _+_, _/_, _%_, _^_, _≤_, _<_}
 use native.Mathlib.Omega.{arith}
 use lib.Dec.{eqb}
@@ -30,12 +30,14 @@ use Rattle.request.specs.Table.{rowOf}
 use Rattle.label.specs.Locks.{lockOn}
 use Rattle.label.specs.Body.{loadOf, storeOf, worked, stepped, nextLabel, saidLabel, named, Sized, blocksOf, sizeOf, blockAt}
 use Rattle.label.specs.Slots.{clear}
-use Rattle.label.proofs.Locked.{lock-same, with-length, with-behind, with-own, with-other}
-use Rattle.label.proofs.Room.{locks-fit, locks-before, block-next, block-after}
-use Rattle.label.proofs.Stored.{stored-between, stored-lock, stored-uid, stored-part, stored-place, stored-sized, stored-dsfid, stored-afi, stored-locks, stored-state, store-load}
-use Rattle.label.proofs.Worked.{worked-below, worked-part}
+use Rattle.label.proofs.LocksLaws.{lock-same, with-length, with-behind, with-own, with-other}
+use Rattle.label.proofs.BodyRoom.{locks-fit, locks-before, block-next, block-after}
+use Rattle.label.proofs.BodyStored.{stored-between, stored-lock, stored-uid, stored-part, stored-place, stored-sized, stored-dsfid, stored-afi}
+use Rattle.label.proofs.BodyStored.{stored-locks, stored-state, store-load}
+use Rattle.label.proofs.BodyWorked.{worked-below, worked-part}
 use Rattle.label.proofs.Slots.{store-ended, next-silent, said-silent}
-use Rattle.label.proofs.Ways.{Way, stays, offs, wakes, moves, starts, says, hushes, selects, readies, drops, writes, locks, afis, dsfids, afiLocks, dsfidLocks, way}
+use Rattle.label.proofs.StepWays.{Way, stays, offs, wakes, moves, starts, says, hushes, selects, readies, drops, writes, locks}
+use Rattle.label.proofs.StepWays.{afis, dsfids, afiLocks, dsfidLocks, way}
 
 -- ---- what no step writes
 
@@ -94,7 +96,8 @@ block-stays (w.Write m) n bytes b h g =
     inl (block-next b n m j))
     (below-or-not m n))
 block-stays (w.Lock m) n bytes b h g =
-    part-ext (blockAt b n) (sizeOf b) (worked (w.Lock m) bytes b) b (with-length m b) (λ j l. with-behind m b (blockAt b n + j) g (omega (arith, locks-before b n)))
+    part-ext (blockAt b n) (sizeOf b) (worked (w.Lock m) bytes b) b (with-length m b)
+    (λ j l. with-behind m b (blockAt b n + j) g (omega (arith, locks-before b n)))
 
 locks-stay : (x : Work) (n : ℕ) (bytes b : List ℕ) → Sized b → n < blocksOf b → lockOn n b ≡ 1 → lockOn n (worked x bytes b) ≡ 1
 unfolding worked

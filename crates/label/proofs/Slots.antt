@@ -30,9 +30,9 @@ use Rattle.label.specs.Body.{loadOf, storeOf, worked, stepped, nextLabel
 use Rattle.label.specs.Answer.{answerFrame}
 use Rattle.label.specs.Facts.{LabelFine}
 use Rattle.label.specs.Slots.{takesPart, seek, clear, during}
-use Rattle.label.proofs.Room.{sized-long}
-use Rattle.label.proofs.Stored.{load-store, store-load, store-seek, seek-own}
-use Rattle.label.proofs.Keeps.{proper-idle, proper-slot, load-proper, mask-fits, stored-fine}
+use Rattle.label.proofs.BodyRoom.{sized-long}
+use Rattle.label.proofs.BodyStored.{load-store, store-load, store-seek, seek-own}
+use Rattle.label.proofs.BodyKeeps.{proper-idle, proper-slot, load-proper, mask-fits, stored-fine}
 
 -- ---- reading a body whose slot, mask length and mask were written
 

@@ -73,8 +73,8 @@ abbrev pub done : Label → Stepped
 done l = told a.Done l
 
 -- an error is 01, code
-abbrev pub refused : ℕ → Label → Stepped
-refused code l = told (a.Error code) l
+abbrev pub failed : ℕ → Label → Stepped
+failed code l = told (a.Error code) l
 
 -- ---- field, Inventory, slots
 
@@ -131,35 +131,35 @@ acts One uid l = eqb (num uid) (num (l .uid))
 -- ---- what one that acts does. Block number past the end, 10; then locks
 
 unfoldable pub readBlock : ℕ → Bool → Label → Stepped
-readBlock n lock l = if ltb (l .blocks) n then refused 0x10 l else told (a.Block n lock) l
+readBlock n lock l = if ltb (l .blocks) n then failed 0x10 l else told (a.Block n lock) l
 
 -- 5 bytes and a block: count bytes were sent; lock is the block's
 unfoldable pub writeBlock : ℕ → Bool → ℕ → ℕ → Label → Stepped
 writeBlock n option count lock l =
-    if not (eqb count (l .size + 1)) then refused 0x02 l
-    else if option then refused 0x03 l
-    else if ltb (l .blocks) n then refused 0x10 l
-    else if eqb lock 1 then refused 0x12 l
+    if not (eqb count (l .size + 1)) then failed 0x02 l
+    else if option then failed 0x03 l
+    else if ltb (l .blocks) n then failed 0x10 l
+    else if eqb lock 1 then failed 0x12 l
     else record { next = l; answer = a.Done; work = w.Write n }
 
 unfoldable pub lockBlock : ℕ → ℕ → Label → Stepped
 lockBlock n lock l =
-    if ltb (l .blocks) n then refused 0x10 l
-    else if eqb lock 1 then refused 0x11 l
+    if ltb (l .blocks) n then failed 0x10 l
+    else if eqb lock 1 then failed 0x11 l
     else record { next = l; answer = a.Done; work = w.Lock n }
 
 -- locks: bit 0 AFI, bit 1 DSFID
 unfoldable pub writeAfi : ℕ → Label → Stepped
-writeAfi v l = if set? (bit 0 (l .locks)) then refused 0x12 l else done (withAfi v l)
+writeAfi v l = if set? (bit 0 (l .locks)) then failed 0x12 l else done (withAfi v l)
 
 unfoldable pub lockAfi : Label → Stepped
-lockAfi l = if set? (bit 0 (l .locks)) then refused 0x11 l else done (withLocks (l .locks + 1) l)
+lockAfi l = if set? (bit 0 (l .locks)) then failed 0x11 l else done (withLocks (l .locks + 1) l)
 
 unfoldable pub writeDsfid : ℕ → Label → Stepped
-writeDsfid v l = if set? (bit 1 (l .locks)) then refused 0x12 l else done (withDsfid v l)
+writeDsfid v l = if set? (bit 1 (l .locks)) then failed 0x12 l else done (withDsfid v l)
 
 unfoldable pub lockDsfid : Label → Stepped
-lockDsfid l = if set? (bit 1 (l .locks)) then refused 0x11 l else done (withLocks (l .locks + 2) l)
+lockDsfid l = if set? (bit 1 (l .locks)) then failed 0x11 l else done (withLocks (l .locks + 2) l)
 
 -- Stay quiet is always silent: state 2. 25 selects, 26 readies. p is the first parameter
 unfoldable pub perform : Task → ℕ → Bool → ℕ → ℕ → Label → Stepped
@@ -184,7 +184,7 @@ unfoldable pub asked : Target → List ℕ → Task → ℕ → Bool → ℕ →
 asked to uid task p option count lock l = if acts to uid l then perform task p option count lock (ended l) else passed task (ended l)
 
 unfoldable pub faulted : Target → List ℕ → ℕ → Label → Stepped
-faulted to uid code l = if acts to uid l then refused code (ended l) else silent (ended l)
+faulted to uid code l = if acts to uid l then failed code (ended l) else silent (ended l)
 
 -- tags in state 0 ignore all but the field
 abbrev pub awake : Stepped → Label → Stepped

@@ -52,7 +52,8 @@ fn say_info(b: &[u8], out: &mut [u8]) -> usize
 fn say_block(b: &[u8], n: u8, lock: bool, out: &mut [u8]) -> usize
     requires { ⌜ Sized (now b) × (n ≤ getD (now b) 11 0) ⌝ }
     requires { ⌜ length (answerFrame (Answer.Block n lock) (now b)) ≤ length (now out) ⌝ }
-    ensures { λ r. ⌜ (r ≡ length (answerFrame (Answer.Block n lock) (now (b .entry)))) × (now (out .exit) ≡ sets (now (out .entry)) 0 (answerFrame (Answer.Block n lock) (now (b .entry)))) ⌝ }
+    ensures { λ r. ⌜ (r ≡ length (answerFrame (Answer.Block n lock) (now (b .entry))))
+        × (now (out .exit) ≡ sets (now (out .entry)) 0 (answerFrame (Answer.Block n lock) (now (b .entry)))) ⌝ }
 {
     let size = b[12] as usize + 1;
     let at = place(b, n);

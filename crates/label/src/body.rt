@@ -108,7 +108,8 @@ fn act_on(b: &[u8], r: Request, count: usize) -> Stepped
 // A label's step in place: its body becomes the next body, and what it answers comes back.
 pub fn step(b: &mut [u8], r: Request, data: &[u8]) -> Answer
     requires { ⌜ Sized (now b) ⌝ }
-    ensures { λ a. ⌜ (a ≡ saidLabel r (length (now («data» .entry))) (now (b .entry))) × (now (b .exit) ≡ nextLabel r (now («data» .entry)) (now (b .entry))) ⌝ }
+    ensures { λ a. ⌜ (a ≡ saidLabel r (length (now («data» .entry))) (now (b .entry)))
+        × (now (b .exit) ≡ nextLabel r (now («data» .entry)) (now (b .entry))) ⌝ }
 {
     let stepped = act_on(b, r, data.len());
     let next = stepped.next;

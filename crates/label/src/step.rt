@@ -8,8 +8,9 @@ use request::label::Request;
 use request::label::Target;
 use request::table::Task;
 ghost use mathlib.Core.Path.{_≡_};
-ghost use Rattle.label.specs.Step.{told, withSlot, awake, silent, done, refused, fieldOff, fieldOn, ended, passes, ready, heeds, turn, opens, inventory};
-ghost use Rattle.label.specs.Step.{endOfFrame, acts, perform, passed, asked, faulted, act, readBlock, writeBlock, lockBlock, writeAfi, lockAfi, writeDsfid, lockDsfid, withState};
+ghost use Rattle.label.specs.Step.{told, withSlot, awake, silent, done, failed, fieldOff, fieldOn, ended, passes, ready, heeds, turn, opens, inventory};
+ghost use Rattle.label.specs.Step.{endOfFrame, acts, perform, passed, asked, faulted, act, withState};
+ghost use Rattle.label.specs.Step.{readBlock, writeBlock, lockBlock, writeAfi, lockAfi, writeDsfid, lockDsfid};
 
 // The part of a label that steps: its body's first 25 bytes.
 pub struct Label {
@@ -82,8 +83,8 @@ impl Label {
         self.told(Answer::Done)
     }
 
-    fn refused(self, code: u8) -> Stepped
-        ensures { λ r. ⌜ r ≡ refused code self ⌝ }
+    fn failed(self, code: u8) -> Stepped
+        ensures { λ r. ⌜ r ≡ failed code self ⌝ }
     {
         self.told(Answer::Error(code))
     }
@@ -218,7 +219,7 @@ impl Label {
         ensures { λ r. ⌜ r ≡ readBlock n lock self ⌝ }
     {
         if self.blocks < n {
-            return self.refused(0x10);
+            return self.failed(0x10);
         }
         self.told(Answer::Block(n, lock))
     }
@@ -228,16 +229,16 @@ impl Label {
         ensures { λ r. ⌜ r ≡ writeBlock n option count lock self ⌝ }
     {
         if count != self.size as usize + 1 {
-            return self.refused(2);
+            return self.failed(2);
         }
         if option {
-            return self.refused(3);
+            return self.failed(3);
         }
         if self.blocks < n {
-            return self.refused(0x10);
+            return self.failed(0x10);
         }
         if lock == 1 {
-            return self.refused(0x12);
+            return self.failed(0x12);
         }
         Stepped {
             next: self,
@@ -250,10 +251,10 @@ impl Label {
         ensures { λ r. ⌜ r ≡ lockBlock n lock self ⌝ }
     {
         if self.blocks < n {
-            return self.refused(0x10);
+            return self.failed(0x10);
         }
         if lock == 1 {
-            return self.refused(0x11);
+            return self.failed(0x11);
         }
         Stepped {
             next: self,
@@ -266,7 +267,7 @@ impl Label {
         ensures { λ r. ⌜ r ≡ writeAfi afi self ⌝ }
     {
         if self.locks % 2 == 1 {
-            return self.refused(0x12);
+            return self.failed(0x12);
         }
         let next = Label { afi, ..self };
         next.done()
@@ -276,7 +277,7 @@ impl Label {
         ensures { λ r. ⌜ r ≡ lockAfi self ⌝ }
     {
         if self.locks % 2 == 1 {
-            return self.refused(0x11);
+            return self.failed(0x11);
         }
         let locks = self.locks + 1;
         let next = Label { locks, ..self };
@@ -287,7 +288,7 @@ impl Label {
         ensures { λ r. ⌜ r ≡ writeDsfid dsfid self ⌝ }
     {
         if self.locks / 2 % 2 == 1 {
-            return self.refused(0x12);
+            return self.failed(0x12);
         }
         let next = Label { dsfid, ..self };
         next.done()
@@ -297,7 +298,7 @@ impl Label {
         ensures { λ r. ⌜ r ≡ lockDsfid self ⌝ }
     {
         if self.locks / 2 % 2 == 1 {
-            return self.refused(0x11);
+            return self.failed(0x11);
         }
         let locks = self.locks + 2;
         let next = Label { locks, ..self };
@@ -354,7 +355,7 @@ impl Label {
         }
         let l = self.ended();
         if self.is_meant(to, uid) {
-            return l.refused(code);
+            return l.failed(code);
         }
         l.silent()
     }

@@ -16,7 +16,7 @@ use Rattle.frame.proofs.Numbers.{bytes-part}
 use Rattle.label.specs.Locks.{lockOn}
 use Rattle.label.specs.Body as labels
 use Rattle.label.proofs.Floor as label
-use Rattle.label.proofs.Fine.{long-enough}
+use Rattle.label.proofs.FactsFine.{long-enough}
 use Rattle.chip.specs.Body as chips
 use Rattle.chip.specs.Write.{locked}
 use Rattle.chip.proofs.Floor as chip
@@ -24,10 +24,10 @@ use Rattle.rack.specs.File.{Kind, Label, Chip}
 use Rattle.rack.specs.File.{countOf, kindAt, lengthAt, startOf, bodyAt, contents, verdictOf}
 use Rattle.rack.specs.Facts.{RackFine, TagFine}
 use Rattle.rack.specs.Event.{Event, aired, nextBody, nextRack, played, refused, refusalOf, eventOf}
-use Rattle.rack.proofs.Verdicts.{fine-rack}
-use Rattle.rack.proofs.Tags.{chip-80, label-sized, signal-sound}
+use Rattle.rack.proofs.FileVerdict.{fine-rack}
+use Rattle.rack.proofs.EventTags.{chip-80, label-sized, signal-sound}
 use Rattle.rack.proofs.Pass.{tag-fine}
-use Rattle.rack.proofs.NextRack.{body-next, contents-stay, next-verdict}
+use Rattle.rack.proofs.EventNext.{body-next, contents-stay, next-verdict}
 
 -- what holds of the rack before and of the next rack holds of the rack that a call leaves
 pub left-by : (P : List ℕ → Type 0) (r : List ℕ) (number : ℕ) (f ds out : List ℕ) → P r → P (nextRack r (aired number f) ds)
@@ -122,19 +122,19 @@ module _ (r : List ℕ) (ok : RackFine r) (number : ℕ) (f ds out : List ℕ) w
           by-chip (λ x. part 68 8 x ≡ part 68 8 body) (λ j. part 68 8 body) (chip.uid-stays (event .signal .chip) (getD ds i 0) body eighty)
 
       -- a counter never rises
-      pub counter-falls : (n : ℕ) → (n ≡ 5) ⊎ (n ≡ 6) → chips.blockAt n bodyLeft ≤ chips.blockAt n body
+      pub counter-falls : (n : ℕ) → (n ≡ 5) ⊎ (n ≡ 6) → chips.blockOf n bodyLeft ≤ chips.blockOf n body
       counter-falls n c =
-          by-chip (λ x. chips.blockAt n x ≤ chips.blockAt n body) (le-refl (chips.blockAt n body))
+          by-chip (λ x. chips.blockOf n x ≤ chips.blockOf n body) (le-refl (chips.blockOf n body))
           (chip.counter-falls (event .signal .chip) (getD ds i 0) body n c eighty)
 
-      pub locked-stays : (n : ℕ) → locked (num (part 64 4 body)) n ≡ true → chips.blockAt n bodyLeft ≡ chips.blockAt n body
+      pub locked-stays : (n : ℕ) → locked (num (part 64 4 body)) n ≡ true → chips.blockOf n bodyLeft ≡ chips.blockOf n body
       locked-stays n l =
-          by-chip (λ x. chips.blockAt n x ≡ chips.blockAt n body) (λ j. chips.blockAt n body)
+          by-chip (λ x. chips.blockOf n x ≡ chips.blockOf n body) (λ j. chips.blockOf n body)
           (chip.locked-stays (event .signal .chip) (getD ds i 0) body n eighty l)
 
       -- no bit of a resettable block rises without reload
       pub only-down : Bytes r → (n : ℕ) → n < 5 → (getD body 78 0 ≡ 1 → ⊥)
-          → bitAnd (chips.blockAt n body) (chips.blockAt n bodyLeft) ≡ chips.blockAt n bodyLeft
+          → bitAnd (chips.blockOf n body) (chips.blockOf n bodyLeft) ≡ chips.blockOf n bodyLeft
       only-down br n m l =
-          by-chip (λ x. bitAnd (chips.blockAt n body) (chips.blockAt n x) ≡ chips.blockAt n x) (and-self (chips.blockAt n body))
+          by-chip (λ x. bitAnd (chips.blockOf n body) (chips.blockOf n x) ≡ chips.blockOf n x) (and-self (chips.blockOf n body))
           (chip.only-down (event .signal .chip) (getD ds i 0) body n m l eighty (bytes-part (startOf r i) (lengthAt r i) r br))

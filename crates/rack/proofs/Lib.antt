@@ -1,10 +1,10 @@
 -- The laws of the rack.
-pub mod Places
-pub mod Verdicts
-pub mod Judging
-pub mod Rebuilt
-pub mod Tags
+pub mod FilePlaces
+pub mod FileVerdict
+pub mod FileJudged
+pub mod FileRebuilt
+pub mod EventTags
 pub mod Pass
-pub mod NextRack
-pub mod Outcomes
+pub mod EventNext
+pub mod EventOutcomes
 pub mod Floor

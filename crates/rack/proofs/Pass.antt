@@ -17,9 +17,9 @@ use Rattle.rack.specs.File.{countOf, entryAt, kindAt, lengthAt, startOf,
 use Rattle.rack.specs.Facts.{RackFine, TagFine}
 use Rattle.rack.specs.Event.{Event, nextBody, saidBy, speaks, frameOf, answerBody, next, answer, nextRack}
 use Rattle.rack.specs.Pass.{PassOf}
-use Rattle.rack.proofs.Places.{part-at, splice-at, start-none, start-more, kind-same, length-same}
-use Rattle.rack.proofs.Rebuilt.{contents-length, body-inside, body-long, front-length}
-use Rattle.rack.proofs.Tags.{body-length}
+use Rattle.rack.proofs.FilePlaces.{part-at, splice-at, start-none, start-more, kind-same, length-same}
+use Rattle.rack.proofs.FileRebuilt.{contents-length, body-inside, body-long, front-length}
+use Rattle.rack.proofs.EventTags.{body-length}
 
 -- ---- the bodies of a fine rack
 

@@ -1,4 +1,4 @@
--- What a caller learns where a part of the file is judged fine. Assumes nothing.
+-- Not for the reader of the paper: what a caller learns where a part of the file is judged fine. Assumes nothing.
 use mathlib.Core.Path.{_≡_}
 use mathlib.Core.Bool.{true}
 use mathlib.Core.List.{List}

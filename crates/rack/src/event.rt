@@ -53,7 +53,8 @@ fn step_at(
     requires { ⌜ at + len ≤ length (now rack) ⌝ }
     requires { ⌜ TagFine (kindOf kind) (part at len (now rack)) ⌝ }
     ensures { λ r. ⌜ r ≡ saidBy (kindOf kind) (carrying signal (now (bytes .entry))) draw (part at len (now (rack .entry))) ⌝ }
-    ensures { λ r. ⌜ now (rack .exit) ≡ splice at len (nextBody (kindOf kind) (carrying signal (now (bytes .entry))) draw (part at len (now (rack .entry)))) (now (rack .entry)) ⌝ }
+    ensures { λ r. ⌜ now (rack .exit) ≡ splice at len (nextBody (kindOf kind) (carrying signal (now (bytes .entry))) draw (part at len (now (rack .entry))))
+        (now (rack .entry)) ⌝ }
 {
     let end = at + len;
     step_tag(kind, &mut rack[at..end], signal, bytes, draw)
@@ -63,7 +64,8 @@ fn step_at(
 fn play(rack: &mut [u8], signal: Signal, bytes: &[u8], draws: &[u8]) -> Pass
     requires { ⌜ RackFine (now rack) ⌝ }
     requires { ⌜ length (now draws) ≡ countOf (now rack) ⌝ }
-    ensures { λ r. ⌜ PassOf (now (rack .entry)) (carrying signal (now (bytes .entry))) (now (draws .entry)) (countOf (now (rack .entry))) (r .answered) (r .who) (r .said) ⌝ }
+    ensures { λ r. ⌜ PassOf (now (rack .entry)) (carrying signal (now (bytes .entry))) (now (draws .entry)) (countOf (now (rack .entry))) (r .answered) (r .who)
+        (r .said) ⌝ }
     ensures { λ r. ⌜ now (rack .exit) ≡ nextRack (now (rack .entry)) (carrying signal (now (bytes .entry))) (now (draws .entry)) ⌝ }
 {
     let n = count(rack);
@@ -117,7 +119,8 @@ fn refuse(rack: &[u8], number: u8, draws: usize, room: usize) -> u8
 // Tag i's frame opens the answer buffer.
 fn tell(rack: &[u8], i: usize, said: Said, answer: &mut [u8]) -> usize
     requires { ⌜ Tellable (now rack) i said × (length (frameOf said (bodyOf (now rack) i)) ≤ length (now answer)) ⌝ }
-    ensures { λ r. ⌜ (r ≡ length (frameOf said (bodyOf (now (rack .entry)) i))) × (now (answer .exit) ≡ sets (now (answer .entry)) 0 (frameOf said (bodyOf (now (rack .entry)) i))) ⌝ }
+    ensures { λ r. ⌜ (r ≡ length (frameOf said (bodyOf (now (rack .entry)) i)))
+        × (now (answer .exit) ≡ sets (now (answer .entry)) 0 (frameOf said (bodyOf (now (rack .entry)) i))) ⌝ }
 {
     write_said(said, body_of(rack, i), answer)
 }

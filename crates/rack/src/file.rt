@@ -10,7 +10,8 @@ ghost use mathlib.Core.Path.{_≡_};
 ghost use Prim.Native.Nat.{_+_, _≤_, _<_};
 ghost use lib.ListN.{length};
 ghost use Rattle.frame.specs.Judge.{firstOf};
-ghost use Rattle.rack.specs.File.{countOf, entryAt, kindOf, kindAt, lengthAt, offsetAt, startOf, headVerdict, entryVerdict, bodyVerdict, endVerdict, verdictOf};
+ghost use Rattle.rack.specs.File.{countOf, entryAt, kindOf, kindAt, lengthAt, offsetAt, startOf, headVerdict, entryVerdict, bodyVerdict, endVerdict};
+ghost use Rattle.rack.specs.File.{verdictOf};
 ghost use Rattle.rack.specs.Facts.{HeadFine, EntryFine, EntriesFine, bodyOf};
 
 // The number of tags.

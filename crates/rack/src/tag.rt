@@ -100,7 +100,8 @@ pub fn speaking(said: Said) -> bool
 // Writes the frame of what a tag said, taken from its body, to the front of the answer buffer.
 pub fn write_said(said: Said, body: &[u8], answer: &mut [u8]) -> usize
     requires { ⌜ Sayable said (now body) × (length (frameOf said (now body)) ≤ length (now answer)) ⌝ }
-    ensures { λ r. ⌜ (r ≡ length (frameOf said (now (body .entry)))) × (now (answer .exit) ≡ sets (now (answer .entry)) 0 (frameOf said (now (body .entry)))) ⌝ }
+    ensures { λ r. ⌜ (r ≡ length (frameOf said (now (body .entry))))
+        × (now (answer .exit) ≡ sets (now (answer .entry)) 0 (frameOf said (now (body .entry)))) ⌝ }
 {
     match said {
         Said::Nothing => 0,

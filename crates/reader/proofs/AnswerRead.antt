@@ -15,7 +15,7 @@ use Rattle.frame.specs.CheckSum.{crcOf, framedWith, framed}
 use Rattle.frame.specs.Ending.{endsIn}
 use Rattle.frame.proofs.CheckSumFrames.{length-framed, content-framed, right-all}
 use Rattle.frame.proofs.Lists.{window, window-take, window-all}
-use Rattle.request.specs.Table.{rowOf, answers}
+use Rattle.request.specs.Table.{rowOf, hasAnswer}
 use Rattle.request.specs.declared.table.Task.{Task}
 use Rattle.request.specs.declared.table.Success.the-variants as s
 use Rattle.request.specs.declared.label.Target.{Target}
@@ -25,19 +25,20 @@ use Rattle.label.specs.Locks.{lockOn}
 use Rattle.label.specs.Body.{sizeOf, blockAt}
 use Rattle.label.specs.Facts.{LabelFine}
 use Rattle.label.specs.Answer as labelAnswer
-use Rattle.label.proofs.Locked.{lock-one}
-use Rattle.label.proofs.Room.{sized-long, block-fits}
+use Rattle.label.proofs.LocksLaws.{lock-one}
+use Rattle.label.proofs.BodyRoom.{sized-long, block-fits}
 use Rattle.chip.specs.declared.step.Answer.the-variants as ca
 use Rattle.chip.specs.Body.{placeOf}
 use Rattle.chip.specs.Answer as chipAnswer
-use Rattle.chip.proofs.Shapes.{place-fits}
+use Rattle.chip.proofs.BodyShapes.{place-fits}
 use Rattle.reader.specs.declared.command.ChipTask.the-variants as p
 use Rattle.reader.specs.declared.command.Command.{Command}
 use Rattle.reader.specs.declared.command.Command.the-variants.{Inventory, Label, Chip}
 use Rattle.reader.specs.declared.answer.Meaning.the-variants as m
 use Rattle.reader.specs.declared.answer.Reading.{Reading}
 use Rattle.reader.specs.Command.{valid}
-use Rattle.reader.specs.Answer.{said, saidOf, errorCode, isError, doneOf, blockOf, owned, infoOf, successOf, labelReading, foundOf, chipReading, shapeOf, readingOf}
+use Rattle.reader.specs.Answer.{said, saidOf, errorCode, isError, doneOf, blockOf, owned, infoOf, successOf, labelReading, foundOf}
+use Rattle.reader.specs.Answer.{chipReading, shapeOf, readingOf}
 
 -- a frame means what its content means
 read-framed : (c : Command) (uid : List ℕ) (n : ℕ) (s : List ℕ) → valid c n ≡ true → 1 ≤ length s → readingOf c uid n (framed s) ≡ shapeOf c uid s
@@ -48,7 +49,7 @@ read-framed c uid n s v h =
 
 -- ---- labels
 
-pub and-false : (b : Bool) → (b && false) ≡ false
+and-false : (b : Bool) → (b && false) ≡ false
 and-false true = refl
 and-false false = refl
 
@@ -114,7 +115,7 @@ info-bytes x to uid b h z o e =
 
 -- to a label command, by what its task's success says
 module _ (to : Target) (option : Bool) (task : Task) (p : ℕ) (uid : List ℕ) (n : ℕ) (v : valid (Label to option task p) n ≡ true) where
-  pub error-read : (code : ℕ) (b : List ℕ) → answers (rowOf task .success) ≡ true → errorCode code ≡ true
+  pub error-read : (code : ℕ) (b : List ℕ) → hasAnswer (rowOf task .success) ≡ true → errorCode code ≡ true
       → readingOf (Label to option task p) uid n (labelAnswer.answerFrame (a.Error code) b) ≡ said (m.Error code)
   unfolding shapeOf labelReading isError labelAnswer.answerFrame
   error-read code b h z = read-framed (Label to option task p) uid n (1 ∷ code ∷ []) v (omega arith) ∙ rw (h, z)
@@ -122,7 +123,7 @@ module _ (to : Target) (option : Bool) (task : Task) (p : ℕ) (uid : List ℕ) 
   -- a success means what its content means
   success-read : (s : List ℕ) → readingOf (Label to option task p) uid n (framed (0 ∷ s)) ≡ successOf to option (rowOf task .success) uid (0 ∷ s)
   unfolding shapeOf labelReading
-  success-read s = read-framed (Label to option task p) uid n (0 ∷ s) v (omega arith) ∙ rw (no-error s, and-false (answers (rowOf task .success)))
+  success-read s = read-framed (Label to option task p) uid n (0 ∷ s) v (omega arith) ∙ rw (no-error s, and-false (hasAnswer (rowOf task .success)))
 
   pub done-read : (b : List ℕ) → rowOf task .success ≡ s.Done → readingOf (Label to option task p) uid n (labelAnswer.answerFrame a.Done b) ≡ said m.Done
   unfolding labelAnswer.answerFrame successOf doneOf

@@ -17,13 +17,13 @@ use Rattle.reader.specs.declared.answer.Reading.{Reading}
 use Rattle.reader.specs.Command.{valid}
 use Rattle.reader.specs.Answer.{numberOf, said, fits, shapeOf, readingOf}
 
-abbrev pub Success : Reading → Type 0
-Success r = numberOf (r .meaning) ≡ 0
+abbrev pub IsSuccess : Reading → Type 0
+IsSuccess r = numberOf (r .meaning) ≡ 0
 
-pub as-read : (r s : Reading) → r ≡ s → Success s → Success r
+pub as-read : (r s : Reading) → r ≡ s → IsSuccess s → IsSuccess r
 as-read r s e h = ap (λ (x : Reading). numberOf (x .meaning)) e ∙ h
 
-pub fits-true : (x : Bool) (r : Reading) → Success (fits x r) → x ≡ true
+pub fits-true : (x : Bool) (r : Reading) → IsSuccess (fits x r) → x ≡ true
 fits-true true r h = refl
 fits-true false r h = absurd (omega arith)
 
@@ -32,12 +32,12 @@ pub record Right (x : Command) (uid : List ℕ) (n : ℕ) (f : List ℕ) : Type 
   pub frame : f ≡ framed (content f)
   pub shape : readingOf x uid n f ≡ shapeOf x uid (content f)
 
-pub told-right : (x : Command) (uid : List ℕ) (n : ℕ) (f : List ℕ) → Bytes f → Success (readingOf x uid n f) → Right x uid n f
+pub told-right : (x : Command) (uid : List ℕ) (n : ℕ) (f : List ℕ) → Bytes f → IsSuccess (readingOf x uid n f) → Right x uid n f
 unfolding readingOf
 told-right x uid n f bs h = go (valid x n) (ltb (length f) 3) (right f) refl refl refl h
   where
     go : (p q r : Bool) → valid x n ≡ p → ltb (length f) 3 ≡ q → right f ≡ r
-        → Success (if not p then said (m.Refused 7) else if q then said (m.Refused 8) else if not r then said (m.Refused 8) else shapeOf x uid (content f))
+        → IsSuccess (if not p then said (m.Refused 7) else if q then said (m.Refused 8) else if not r then said (m.Refused 8) else shapeOf x uid (content f))
         → Right x uid n f
     go false q r e g i z = absurd (omega arith)
     go true true r e g i z = absurd (omega arith)

@@ -15,7 +15,7 @@ use Rattle.frame.specs.CheckSum.{right}
 use Rattle.frame.specs.Ending.{endsIn}
 use Rattle.frame.proofs.Numbers.{num-lt}
 use Rattle.frame.proofs.Tests.{tests}
-use Rattle.request.specs.Table.{rowOf, answers}
+use Rattle.request.specs.Table.{rowOf, hasAnswer}
 use Rattle.request.specs.declared.table.Task.{Task}
 use Rattle.request.specs.declared.table.Row.{Row}
 use Rattle.request.specs.declared.table.Success.{Success}
@@ -49,7 +49,7 @@ success-arm r to option success k uid c e h = rw e h
 
 -- a label's answer: an error, or a success
 module _ (r : Reading) (to : Target) (option : Bool) (task : Task) (uid c : List ℕ) (row : Row) (b : Bool) (f : row ≡ rowOf task)
-    (g : b ≡ (answers (row .success) && isError c)) where
+    (g : b ≡ (hasAnswer (row .success) && isError c)) where
   pub reading-error : b ≡ true → {code : ℕ} → code ≡ getD c 1 0 → r ≡ said (m.Error code) → r ≡ labelReading to option task uid c
   unfolding labelReading
   reading-error h z e = rw (← f, ← g, h, ← z) e
@@ -59,7 +59,8 @@ module _ (r : Reading) (to : Target) (option : Bool) (task : Task) (uid c : List
   reading-success h e = rw (← f, ← g, h) e
 
 -- to an Inventory
-module _ (r : Reading) (bits mask : ℕ) (c u : List ℕ) (b : Bool) (l : length c ≡ 10) (z : getD c 0 0 ≡ 0) (f : u ≡ part 2 8 c) (g : b ≡ endsIn u mask bits) where
+module _ (r : Reading) (bits mask : ℕ) (c u : List ℕ) (b : Bool) (l : length c ≡ 10) (z : getD c 0 0 ≡ 0) (f : u ≡ part 2 8 c)
+    (g : b ≡ endsIn u mask bits) where
   pub found-misfit : not b ≡ true → r ≡ said (m.Refused 9) → r ≡ foundOf bits mask c
   unfolding foundOf
   found-misfit h e = rw (eq-eqb (length c) 10 l, eq-eqb (getD c 0 0) 0 z, ← f, ← g, not-true b h) e

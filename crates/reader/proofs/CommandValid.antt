@@ -1,7 +1,7 @@
 -- What a command that has a request keeps to: the tests of `valid` taken apart, each as a fact.
 -- Assumes nothing.
-use mathlib.Core.Path.{_≡_, refl}
-use mathlib.Core.Bool.{Bool, true, false, not, _&&_, _||_, false≢true}
+use mathlib.Core.Path.{_≡_}
+use mathlib.Core.Bool.{Bool, true, false, not, _&&_}
 use Prim.Native.Nat.{ℕ, _^_, _≤_, _<_}
 use native.Mathlib.Omega.{arith}
 use lib.Dec.{eqb, ltb, leb}
@@ -12,7 +12,6 @@ use Rattle.request.specs.Label.{most, targetFits}
 use Rattle.request.specs.declared.table.Task.{Task}
 use Rattle.request.specs.declared.table.Row.{Row}
 use Rattle.request.specs.declared.label.Target.{Target}
-use Rattle.request.specs.declared.label.Target.the-variants.{Everyone, Selected, One}
 use Rattle.request.specs.declared.label.Family.{Family}
 use Rattle.request.specs.Chip.{listed}
 use Rattle.reader.specs.declared.command.ChipTask.{ChipTask}
@@ -20,20 +19,9 @@ use Rattle.reader.specs.declared.command.ChipTask.the-variants as p
 use Rattle.reader.specs.declared.command.Command.the-variants.{Inventory, Label, Chip}
 use Rattle.reader.specs.Command.{everyone, dataFits, labelFits, chipFits, inventoryFits, valid}
 
-is-off : (b : Bool) → not b ≡ true → b ≡ false
-is-off true e = absurd (false≢true e)
-is-off false e = refl
-
-is-everyone : (to : Target) → everyone to ≡ true → to ≡ Everyone
-is-everyone Everyone e = refl
-is-everyone Selected e = absurd (false≢true e)
-is-everyone One e = absurd (false≢true e)
-
 -- ---- Inventory
 
-pub record InventoryFacts (to : Target) (option sixteen : Bool) (bits mask : ℕ) : Type 0 where
-  pub plain : option ≡ false
-  pub all : to ≡ Everyone
+pub record InventoryFacts (sixteen : Bool) (bits mask : ℕ) : Type 0 where
   pub short : bits ≤ most sixteen
   pub long : bits ≤ 64
   pub low : mask < 2 ^ bits
@@ -43,7 +31,7 @@ most-64 true = omega arith
 most-64 false = omega arith
 
 pub valid-inventory : (to : Target) (option : Bool) (family : Family) (sixteen : Bool) (bits mask n : ℕ)
-    → valid (Inventory to option family sixteen bits mask) n ≡ true → InventoryFacts to option sixteen bits mask
+    → valid (Inventory to option family sixteen bits mask) n ≡ true → InventoryFacts sixteen bits mask
 unfolding valid inventoryFits
 valid-inventory to option family sixteen bits mask n v =
     let a = and-both (not option) (everyone to && (leb bits (most sixteen) && ltb mask (2 ^ bits))) v in
@@ -51,8 +39,6 @@ valid-inventory to option family sixteen bits mask n v =
     let d = and-both (leb bits (most sixteen)) (ltb mask (2 ^ bits)) (b .1) in
     let h : bits ≤ most sixteen = leb-true bits (most sixteen) (d .0) in
     record {
-      plain = is-off option (a .0);
-      all = is-everyone to (b .0);
       short = h;
       long = omega (arith, most-64 sixteen);
       low = ltb-true mask (2 ^ bits) (d .1);
@@ -60,17 +46,10 @@ valid-inventory to option family sixteen bits mask n v =
 
 -- ---- chips
 
-pub record ChipFacts (to : Target) (option : Bool) (task : ChipTask) (n : ℕ) : Type 0 where
-  pub plain : option ≡ false
-  pub all : to ≡ Everyone
-  pub fit : chipFits task n ≡ true
-
-pub valid-chip : (to : Target) (option : Bool) (task : ChipTask) (n : ℕ) → valid (Chip to option task) n ≡ true → ChipFacts to option task n
+pub valid-chip : (to : Target) (option : Bool) (task : ChipTask) (n : ℕ) → valid (Chip to option task) n ≡ true → chipFits task n ≡ true
 unfolding valid
 valid-chip to option task n v =
-    let a = and-both (not option) (everyone to && chipFits task n) v in
-    let b = and-both (everyone to) (chipFits task n) (a .1) in
-    record { plain = is-off option (a .0); all = is-everyone to (b .0); fit = b .1 }
+    and-both (everyone to) (chipFits task n) (and-both (not option) (everyone to && chipFits task n) v .1) .1
 
 pub marker-small : (s n : ℕ) → chipFits (p.Marker s) n ≡ true → (1 ≤ s) × (s ≤ 15)
 unfolding chipFits

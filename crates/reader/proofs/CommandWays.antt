@@ -11,7 +11,6 @@ use borrow.Author.Tests.{lt-ltb, le-leb, lt-leb, eq-eqb, eqb-true, ltb-true, not
 use Rattle.frame.proofs.Bools.{bool-same}
 use Rattle.frame.proofs.Tests.{tests}
 use Rattle.request.specs.Label.{most}
-use Rattle.request.specs.Chip.{listed}
 use Rattle.reader.specs.declared.command.ChipTask.{ChipTask}
 use Rattle.reader.specs.declared.command.Command.{Command}
 use Rattle.reader.specs.Command.{chipFits, inventoryFits, valid}
@@ -26,19 +25,16 @@ and-second b w x y z e h f g = rw (← e, not-false b h, ← f, not-true w g)
 pub and-third : (r b w x y z : Bool) → b ≡ x → not b ≡ false → w ≡ y → not w ≡ false → r ≡ z → r ≡ (x && (y && z))
 and-third r b w x y z e h f g k = rw (← e, not-false b h, ← f, not-false w g) k
 
-pub word-fits : (r : Bool) (a n : ℕ) → n ≡ 4 → r ≡ listed a → r ≡ (eqb n 4 && listed a)
-word-fits r a n e h = rw (eq-eqb n 4 e) h
-
 pub task-arm : (r : Bool) (task k : ChipTask) (n : ℕ) → task ≡ k → r ≡ chipFits k n → r ≡ chipFits task n
 task-arm r task k n e h = rw e h
 
-pub mask-1 : (sixteen : Bool) (bits mask b : ℕ) → b ≡ most sixteen → b < bits → false ≡ inventoryFits sixteen bits mask
+pub mask-over : (sixteen : Bool) (bits mask b : ℕ) → b ≡ most sixteen → b < bits → false ≡ inventoryFits sixteen bits mask
 unfolding inventoryFits
-mask-1 sixteen bits mask b e h = rw (← e, lt-leb bits b h)
+mask-over sixteen bits mask b e h = rw (← e, lt-leb bits b h)
 
-pub mask-2 : (sixteen : Bool) (bits mask b l : ℕ) → b ≡ most sixteen → bits ≤ b → l ≡ mask % 2 ^ bits → eqb l mask ≡ inventoryFits sixteen bits mask
+pub mask-low : (sixteen : Bool) (bits mask b l : ℕ) → b ≡ most sixteen → bits ≤ b → l ≡ mask % 2 ^ bits → eqb l mask ≡ inventoryFits sixteen bits mask
 unfolding inventoryFits
-mask-2 sixteen bits mask b l e h f = rw (← e, le-leb bits b h, f) (bool-same (eqb (mask % 2 ^ bits) mask) (ltb mask (2 ^ bits)) below above)
+mask-low sixteen bits mask b l e h f = rw (← e, le-leb bits b h, f) (bool-same (eqb (mask % 2 ^ bits) mask) (ltb mask (2 ^ bits)) below above)
   where
     below : eqb (mask % 2 ^ bits) mask ≡ true → ltb mask (2 ^ bits) ≡ true
     below z = lt-ltb mask (2 ^ bits) (rw (eqb-true (mask % 2 ^ bits) mask z) at (mod-lt mask (pow-pos bits)))
@@ -58,10 +54,9 @@ pub ruleset ways = (
   and-first,
   and-second,
   and-third,
-  word-fits,
   task-arm,
-  mask-1,
-  mask-2,
+  mask-over,
+  mask-low,
   all-fits,
   valid-arm,
 )

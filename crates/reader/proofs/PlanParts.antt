@@ -7,7 +7,7 @@ use Prim.Native.Nat.{ℕ, zero, suc, _+_, _-_, _*_, _/_, _%_, _≤_, _<_}
 use native.Mathlib.Nat.{mod-eq-of-lt, div-eq-of-lt, add-mul-mod-self-left, add-mul-div-left, zero-add}
 use native.Mathlib.Omega.{arith}
 use lib.Dec.{lit<}
-use lib.ListN.{length, take, drop, length-append}
+use lib.ListN.{length, take, length-append}
 use lib.Seq.{sets, take-all, take-length, length-take-le}
 use Rattle.frame.specs.Choose.{if_then_else_}
 use Rattle.frame.specs.Number.{bytesOf}
@@ -23,7 +23,7 @@ use Rattle.request.specs.declared.label.Target.{Target}
 use Rattle.request.specs.declared.label.Target.the-variants.{Everyone, Selected, One}
 use Rattle.request.specs.declared.label.Family.{Family}
 use Rattle.request.specs.declared.label.Family.the-variants.{Any, Only}
-use Rattle.request.proofs.TableRows.{RowFine, row-fine}
+use Rattle.request.proofs.TableRows.{row-fine}
 use Rattle.reader.specs.declared.command.ChipTask.{ChipTask}
 use Rattle.reader.specs.declared.command.ChipTask.the-variants as p
 use Rattle.reader.specs.declared.command.Command.{Command}
@@ -31,7 +31,7 @@ use Rattle.reader.specs.declared.command.Command.the-variants.{Inventory
 use Rattle.reader.specs.declared.writer.Plan.{Plan}
 use Rattle.reader.specs.declared.writer.Written.{Written}
 use Rattle.reader.specs.Command.{dataFits, chipFits, valid}
-use Rattle.reader.specs.Request.{uidPart, parameter, params, chipBytes, inventoryBytes, flags, content}
+use Rattle.reader.specs.Request.{uidPart, parameter, params, chipBytes, inventoryBytes, flags, content, atFront}
 use Rattle.reader.specs.Plan.{partsOf, uidCount, labelPlan, shortPlan, inventoryPlan, chipPlan, planOf, RangedFamily, RangedChip, Ranged, PlanFits}
 use Rattle.reader.proofs.CommandValid.{valid-inventory, valid-chip, valid-label, marker-small, write-listed, block-long}
 
@@ -139,7 +139,7 @@ unfolding planOf content Ranged partsOf
 plan-right (Inventory to option family sixteen bits mask) uid d v r l =
     inventory-parts family sixteen bits mask uid d (valid-inventory to option family sixteen bits mask (length d) v .long) r
 plan-right (Label to option task p) uid d v r l = label-parts to option task p uid d r l
-plan-right (Chip to option task) uid d v r l = chip-parts task uid d (valid-chip to option task (length d) v .fit) r
+plan-right (Chip to option task) uid d v r l = chip-parts task uid d (valid-chip to option task (length d) v) r
 plan-right (Other kind code) uid d v r l = refl
 
 -- ---- a plan of a command that has a request fits the least room
@@ -187,7 +187,7 @@ unfolding planOf
 plan-fits (Inventory to option family sixteen bits mask) n room v h =
     inventory-fits family sixteen bits mask n room (valid-inventory to option family sixteen bits mask n v .long) h
 plan-fits (Label to option task p) n room v h = label-fits to option task p n room (valid-label to option task p n v .count) h
-plan-fits (Chip to option task) n room v h = chip-fits task n room (valid-chip to option task n v .fit) h
+plan-fits (Chip to option task) n room v h = chip-fits task n room (valid-chip to option task n v) h
 plan-fits (Other kind code) n room v h = short-fits 0 0 0 n room (omega arith) (omega arith) (omega arith) h
 
 -- ---- the straight line of puts, from what each ensures
@@ -197,7 +197,7 @@ parts-long : (q : Plan) (uid d : List ℕ) → q .uids ≤ length uid → q .dat
 unfolding partsOf
 parts-long q uid d hu hd = simp (length-append, length-bytes, length-take-le (q .uids) uid hu, length-take-le (q .datas) d hd)
 
-pub lay-way : (q : Plan) (uid d old x1 x2 x3 x4 x5 x6 : List ℕ) (a1 a2 a3 a4 a5 a6 : ℕ) → PlanFits q (length d) (length old) → length uid ≡ 8
+pub lay-way : (q : Plan) (uid d old : List ℕ) {x1 x2 x3 x4 x5 x6 : List ℕ} {a1 a2 a3 a4 a5 a6 : ℕ} → PlanFits q (length d) (length old) → length uid ≡ 8
     → (a1 ≡ 0 + q .heads) × (x1 ≡ sets old 0 (bytesOf (q .heads) (q .head)))
     → (a2 ≡ a1 + q .uids) × (x2 ≡ sets x1 a1 (take (q .uids) uid))
     → (a3 ≡ a2 + q .pars) × (x3 ≡ sets x2 a2 (bytesOf (q .pars) (q .par)))
@@ -205,9 +205,9 @@ pub lay-way : (q : Plan) (uid d old x1 x2 x3 x4 x5 x6 : List ℕ) (a1 a2 a3 a4 a
     → (a5 ≡ a4 + q .datas) × (x5 ≡ sets x4 a4 (take (q .datas) d))
     → (a6 ≡ a5 + 2) × (x6 ≡ sets x5 a5 (bytesOf 2 (crcOf (take a5 x5))))
     → (_≡_ {A = Written} (record { number = 0; «length» = a6 }) (record { number = 0; «length» = length (framed (partsOf q uid d)) }))
-    × (x6 ≡ framed (partsOf q uid d) ++ drop (length (framed (partsOf q uid d))) old)
+    × (x6 ≡ atFront (framed (partsOf q uid d)) old)
 unfolding partsOf
-lay-way q uid d old x1 x2 x3 x4 x5 x6 a1 a2 a3 a4 a5 a6 ok lu e1 e2 e3 e4 e5 e6 =
+lay-way q uid d old ok lu e1 e2 e3 e4 e5 e6 =
     let hu : q .uids ≤ length uid = omega arith in
     let w : length (partsOf q uid d) + 2 ≤ length old = omega (arith, parts-long q uid d hu (ok .sent)) in
     let l =

@@ -9,11 +9,10 @@ use native.Mathlib.Omega.{arith}
 use lib.ListN.{length, getD}
 use lib.Seq.{take-at, length-take-le}
 use borrow.Author.Tests.{eq-eqb, ne-eqb}
-use Rattle.frame.specs.Choose.{if_then_else_}
 use Rattle.frame.specs.Number.{num, bytesOf}
 use Rattle.frame.specs.CheckSum.{crcOf, framedWith, framed}
 use Rattle.frame.proofs.CheckSumFrames.{length-framed, right-all}
-use Rattle.request.specs.Table.{rowOf, optionFits}
+use Rattle.request.specs.Table.{rowOf}
 use Rattle.request.specs.Label as labels
 use Rattle.request.specs.declared.table.Task.{Task}
 use Rattle.request.specs.declared.table.Task.the-variants as t
@@ -46,12 +45,12 @@ flags-back Selected option code uid ps h = selected-back code ps option
 flags-back One option code uid ps h = one-back code ps option uid h
 
 -- a row's parameters are as long as the row says, and a block's data stands behind one
-known-back : (to : Target) (option : Bool) (task : Task) (row : Row) (p : ℕ) (d : List ℕ) → RowFine task row → LabelFacts row to option (length d)
-    → labels.known to option (params row p d) row ≡ k.Do to task (getD (parameter row p) 0 0) option
-unfolding labels.known
-known-back to option task row p d ok v = go (row .block) refl
+row-back : (to : Target) (option : Bool) (task : Task) (row : Row) (p : ℕ) (d : List ℕ) → RowFine task row → LabelFacts row to option (length d)
+    → labels.byRow to option (params row p d) row ≡ k.Do to task (getD (parameter row p) 0 0) option
+unfolding labels.byRow
+row-back to option task row p d ok v = go (row .block) refl
   where
-    go : (b : Bool) → row .block ≡ b → labels.known to option (params row p d) row ≡ k.Do to task (getD (parameter row p) 0 0) option
+    go : (b : Bool) → row .block ≡ b → labels.byRow to option (params row p d) row ≡ k.Do to task (getD (parameter row p) 0 0) option
     go true e = rw (e, v .target, ok .block e, ok .named)
     go false e =
         let l : length (parameter row p ++ []) + 4 ≡ row .len =
@@ -65,7 +64,7 @@ call-back : (to : Target) (option : Bool) (task : Task) (p : ℕ) (d : List ℕ)
 unfolding labels.call labels.checked
 call-back to option task p d v =
     let ok = row-fine task in
-    rw (ok .other, ok .found) (known-back to option task (rowOf task) p d ok v)
+    rw (ok .other, ok .found) (row-back to option task (rowOf task) p d ok v)
 
 -- a label takes a label command as meant
 pub label-meant : (to : Target) (option : Bool) (task : Task) (p : ℕ) (uid d : List ℕ) → valid (Label to option task p) (length d) ≡ true
@@ -145,4 +144,4 @@ chip-back (p.Write x) to option uid d v = let b = write-listed x (length d) v in
 -- a chip takes a chip command as meant
 pub chip-meant : (to : Target) (option : Bool) (task : ChipTask) (uid d : List ℕ) → valid (Chip to option task) (length d) ≡ true
     → chips.decode (encode (Chip to option task) uid d) ≡ chipMeant task d
-chip-meant to option task uid d v = chip-back task to option uid d (valid-chip to option task (length d) v .fit)
+chip-meant to option task uid d v = chip-back task to option uid d (valid-chip to option task (length d) v)

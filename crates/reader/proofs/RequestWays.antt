@@ -2,16 +2,16 @@
 -- Assumes nothing.
 use mathlib.Core.Path.{_≡_, sym, ap, _∙_}
 use mathlib.Core.Bool.{Bool, true, false, not}
-use mathlib.Core.List.{List, _++_}
+use mathlib.Core.List.{List}
 use Prim.Native.Nat.{ℕ, _≤_, _<_}
-use lib.ListN.{length, drop}
+use lib.ListN.{length}
 use borrow.Author.Tests.{lt-ltb, le-ltb, not-true, not-false}
 use Rattle.frame.specs.CheckSum.{framed}
 use Rattle.reader.specs.declared.command.Command.{Command}
 use Rattle.reader.specs.declared.writer.Plan.{Plan}
 use Rattle.reader.specs.declared.writer.Written.{Written}
 use Rattle.reader.specs.Command.{valid}
-use Rattle.reader.specs.Request.{content, encode, least, refusalOf, writtenOf, outOf}
+use Rattle.reader.specs.Request.{content, encode, least, atFront, refusalOf, writtenOf, outOf}
 use Rattle.reader.specs.Plan.{partsOf, planOf, Ranged, PlanFits}
 use Rattle.reader.proofs.PlanParts.{plan-right, plan-fits}
 
@@ -33,8 +33,7 @@ module _ (c : Command) (q : Plan) (b : Bool) (g : not b ≡ false) where
 
   pub right-way : (uid d old now : List ℕ) (r : Written) → least ≤ length old → length uid ≡ 8 → b ≡ valid c (length d)
       → (q ≡ planOf c (length d)) × Ranged c
-      → (r ≡ record { number = 0; «length» = length (framed (partsOf q uid d)) })
-      × (now ≡ framed (partsOf q uid d) ++ drop (length (framed (partsOf q uid d))) old)
+      → (r ≡ record { number = 0; «length» = length (framed (partsOf q uid d)) }) × (now ≡ atFront (framed (partsOf q uid d)) old)
       → (r ≡ writtenOf c uid d old) × (now ≡ outOf c uid d old)
   unfolding writtenOf outOf refusalOf encode
   right-way uid d old now r h lu v f e =

@@ -26,45 +26,45 @@ use Rattle.reader.specs.Request.{encode, chipMeant}
 use Rattle.reader.specs.Answer.{readingOf}
 use Rattle.reader.specs.Tags.{ChipGives}
 use Rattle.reader.proofs.RequestMeant.{chip-meant}
-use Rattle.reader.proofs.AnswerSuccess.{Success, as-read}
+use Rattle.reader.proofs.AnswerSuccess.{IsSuccess, as-read}
 use Rattle.reader.proofs.AnswerRead.{initiate-read, pcall-read, marker-read, select-read, word-read, uid-read}
 
 module _ (to : Target) (option : Bool) (uid : List ℕ) (n : ℕ) (b : List ℕ) where
   -- an end of b's step that, where it speaks, is read
-  abbrev Told : ChipTask → Stepped → Type 0
-  Told task s = speaks (s .answer) ≡ true → Success (readingOf (c.Chip to option task) uid n (answerFrame (s .answer) b))
+  abbrev ReadAs : ChipTask → Stepped → Type 0
+  ReadAs task s = speaks (s .answer) ≡ true → IsSuccess (readingOf (c.Chip to option task) uid n (answerFrame (s .answer) b))
 
-  none-told : (task : ChipTask) (x : Chip) → Told task (step.silent x)
+  none-told : (task : ChipTask) (x : Chip) → ReadAs task (step.silent x)
   none-told task x s = absurd (false≢true s)
 
-  leave-told : (task : ChipTask) (state : ℕ) (x : Chip) → Told task (step.leave state x)
+  leave-told : (task : ChipTask) (state : ℕ) (x : Chip) → ReadAs task (step.leave state x)
   unfolding step.leave
   leave-told task state x =
-      if-either (Told task) (not (eqb (x .state) 3)) _ _ (λ q. none-told task x) (λ q. none-told task (step.with state (x .id) 0 x))
+      if-either (ReadAs task) (not (eqb (x .state) 3)) _ _ (λ q. none-told task x) (λ q. none-told task (step.with state (x .id) 0 x))
 
   chip-told : (task : ChipTask) (d : List ℕ) (draw : ℕ) → valid (c.Chip to option task) n ≡ true → length b ≡ 80
-      → Told task (chip.stepped (chipMeant task d) draw b)
+      → ReadAs task (chip.stepped (chipMeant task d) draw b)
   unfolding chip.stepped step.act chipMeant step.initiate step.pcall step.marker step.select step.read step.uid step.write
   chip-told p.Initiate d draw v h =
       let x = chip.loadOf b in
-      if-either (Told p.Initiate) (eqb (x .state) 1 || eqb (x .state) 2) _ _
+      if-either (ReadAs p.Initiate) (eqb (x .state) 1 || eqb (x .state) 2) _ _
       (λ q s. as-read _ _ (initiate-read to option uid n b (step.chosen draw x) v) refl) (λ q. none-told p.Initiate x)
   chip-told p.Pcall d draw v h =
       let x = chip.loadOf b in
       let r = step.chosen draw x % 16 in
-      if-either (Told p.Pcall) (not (eqb (x .state) 2)) _ _ (λ q. none-told p.Pcall x)
-      (λ q. if-either (Told p.Pcall) (eqb r 0) _ _
+      if-either (ReadAs p.Pcall) (not (eqb (x .state) 2)) _ _ (λ q. none-told p.Pcall x)
+      (λ q. if-either (ReadAs p.Pcall) (eqb r 0) _ _
       (λ q s. let z : r ≡ 0 = eqb-true r 0 q in as-read _ _ (pcall-read to option uid n b (x .id / 16 * 16 + r) v (omega arith)) refl)
       (λ q. none-told p.Pcall (step.with (x .state) (x .id / 16 * 16 + r) (x .reload) x)))
   chip-told (p.Marker k) d draw v h =
       let x = chip.loadOf b in
-      let P = Told (p.Marker k) in
+      let P = ReadAs (p.Marker k) in
       if-either P (not (eqb (x .state) 2)) _ _ (λ q. none-told (p.Marker k) x)
       (λ q. if-either P (eqb (x .id % 16) k) _ _ (λ q s. as-read _ _ (marker-read to option uid n b k (x .id) v (eqb-true (x .id % 16) k q)) refl)
       (λ q. none-told (p.Marker k) x))
   chip-told (p.Select id) d draw v h =
       let x = chip.loadOf b in
-      let P = Told (p.Select id) in
+      let P = ReadAs (p.Select id) in
       if-either P (not (eqb (x .id) id)) _ _ (λ q. leave-told (p.Select id) 4 x)
       (λ q. if-either P (eqb (x .state) 2 || (eqb (x .state) 3 || eqb (x .state) 4)) _ _ (λ q s. as-read _ _ (select-read to option uid n b id v) refl)
       (λ q. none-told (p.Select id) x))
@@ -72,24 +72,24 @@ module _ (to : Target) (option : Bool) (uid : List ℕ) (n : ℕ) (b : List ℕ)
   chip-told p.Reset d draw v h = leave-told p.Reset 2 (chip.loadOf b)
   chip-told (p.Read k) d draw v h =
       let x = chip.loadOf b in
-      if-either (Told (p.Read k)) (not (eqb (x .state) 3)) _ _ (λ q. none-told (p.Read k) x) (λ q s. as-read _ _ (word-read to option uid n b k v h) refl)
+      if-either (ReadAs (p.Read k)) (not (eqb (x .state) 3)) _ _ (λ q. none-told (p.Read k) x) (λ q s. as-read _ _ (word-read to option uid n b k v h) refl)
   chip-told p.Uid d draw v h =
       let x = chip.loadOf b in
-      if-either (Told p.Uid) (not (eqb (x .state) 3)) _ _ (λ q. none-told p.Uid x) (λ q s. as-read _ _ (uid-read to option uid n b v h) refl)
+      if-either (ReadAs p.Uid) (not (eqb (x .state) 3)) _ _ (λ q. none-told p.Uid x) (λ q s. as-read _ _ (uid-read to option uid n b v h) refl)
   chip-told (p.Write k) d draw v h =
       let x = chip.loadOf b in
-      let P = Told (p.Write k) in
+      let P = ReadAs (p.Write k) in
       if-either P (not (eqb (x .state) 3)) _ _ (λ q. none-told (p.Write k) x)
       (λ q. if-either P (locked (num (part 64 4 b)) k) _ _ (λ q. none-told (p.Write k) x) (λ q s. absurd (false≢true s)))
 
 -- what a well-formed chip answers to a chip command is read
 pub chip-gives : (to : Target) (option : Bool) (task : ChipTask) (uid d g : List ℕ) → valid (c.Chip to option task) (length d) ≡ true
-    → ChipGives (encode (c.Chip to option task) uid d) g → Success (readingOf (c.Chip to option task) uid (length d) g)
+    → ChipGives (encode (c.Chip to option task) uid d) g → IsSuccess (readingOf (c.Chip to option task) uid (length d) g)
 unfolding chip.saidChip
 chip-gives to option task uid d g v y =
     let b = y .body in
     let w =
-    subst (λ (r : Order). Told to option uid (length d) b task (chip.stepped r (y .draw) b)) (sym (chip-meant to option task uid d v))
+    subst (λ (r : Order). ReadAs to option uid (length d) b task (chip.stepped r (y .draw) b)) (sym (chip-meant to option task uid d v))
     (chip-told to option uid (length d) b task d (y .draw) v (y .long))
     in
-    subst (λ (x : List ℕ). Success (readingOf (c.Chip to option task) uid (length d) x)) (y .says) (w (y .speaks))
+    subst (λ (x : List ℕ). IsSuccess (readingOf (c.Chip to option task) uid (length d) x)) (y .says) (w (y .speaks))

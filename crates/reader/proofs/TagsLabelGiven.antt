@@ -19,7 +19,7 @@ use Rattle.frame.specs.Ending.{endsIn, endsInSlot}
 use Rattle.frame.proofs.Bools.{and-both, or-right, eqb-same, if-true, if-false}
 use Rattle.frame.proofs.Lists.{window, window-take, window-all}
 use Rattle.frame.proofs.Numbers.{bytes-take, bytes-drop, bytes-part}
-use Rattle.request.specs.Table.{rowOf, answers}
+use Rattle.request.specs.Table.{rowOf, hasAnswer}
 use Rattle.request.specs.declared.table.Task.{Task}
 use Rattle.request.specs.declared.table.Task.the-variants as t
 use Rattle.request.specs.declared.table.Success.the-variants.{Done, Block, Info}
@@ -39,8 +39,8 @@ use Rattle.label.specs.Locks.{lockOn}
 use Rattle.label.specs.Answer.{speaks, blockBytes, answerFrame}
 use Rattle.label.specs.Facts.{LabelFine}
 use Rattle.label.specs.Slots.{takesPart, during}
-use Rattle.label.proofs.Fine.{fine-rules}
-use Rattle.label.proofs.Room.{sized-long}
+use Rattle.label.proofs.FactsFine.{fine-rules}
+use Rattle.label.proofs.BodyRoom.{sized-long}
 use Rattle.label.proofs.Slots.{during-taking, during-uid, said-first, said-step, seek-getD, found-frame}
 use Rattle.reader.specs.declared.command.Command.the-variants as c
 use Rattle.reader.specs.declared.answer.Meaning.the-variants as m
@@ -53,39 +53,55 @@ use Rattle.reader.specs.Plan.{RangedFamily}
 use Rattle.reader.proofs.CommandValid.{valid-inventory, valid-label, block-long}
 use Rattle.reader.proofs.RequestMeant.{label-meant, data-meant, inventory-meant}
 use Rattle.reader.proofs.AnswerRead.{held}
-use Rattle.reader.proofs.AnswerSuccess.{Success, fits-true, Right, told-right}
+use Rattle.reader.proofs.AnswerSuccess.{IsSuccess, fits-true, told-right}
 use Rattle.reader.proofs.TagsLabelRead.{after-slot}
 use Rattle.reader.proofs.TagsMade.{bytes-same, made, Body, made-body}
 
 -- a label's answer that is no error is a success
-plain-success : (to : Target) (option : Bool) (task : Task) (uid s : List ℕ) → Success (labelReading to option task uid s)
-    → ((code : ℕ) → labelReading to option task uid s .meaning ≡ m.Error code → ⊥) → Success (successOf to option (rowOf task .success) uid s)
+plain-success : (to : Target) (option : Bool) (task : Task) (uid s : List ℕ) → IsSuccess (labelReading to option task uid s)
+    → ((code : ℕ) → labelReading to option task uid s .meaning ≡ m.Error code → ⊥) → IsSuccess (successOf to option (rowOf task .success) uid s)
 unfolding labelReading
-plain-success to option task uid s h ne = go (answers (rowOf task .success) && isError s) h ne
+plain-success to option task uid s h ne = go (hasAnswer (rowOf task .success) && isError s) h ne
   where
     r : Reading
     r = successOf to option (rowOf task .success) uid s
 
-    go : (b : Bool) → Success (if b then said (m.Error (getD s 1 0)) else r)
-        → ((code : ℕ) → (if b then said (m.Error (getD s 1 0)) else r) .meaning ≡ m.Error code → ⊥) → Success r
+    go : (b : Bool) → IsSuccess (if b then said (m.Error (getD s 1 0)) else r)
+        → ((code : ℕ) → (if b then said (m.Error (getD s 1 0)) else r) .meaning ≡ m.Error code → ⊥) → IsSuccess r
     go true z ne = absurd (ne (getD s 1 0) refl)
     go false z ne = z
 
 -- ---- a label that gives it
 
-give : (f b g : List ℕ) (x : Answer) → Bytes b → LabelFine b → label.saidLabel (decode f) (length (dataOf f)) b ≡ x → speaks x ≡ true → answerFrame x b ≡ g
-    → LabelGives f g
-give f b g x bs ok e s i =
+give : (f b g : List ℕ) (r : Request) (x : Answer) → Bytes b → LabelFine b → decode f ≡ r → label.saidLabel r (length (dataOf f)) b ≡ x
+    → speaks x ≡ true → answerFrame x b ≡ g → LabelGives f g
+give f b g r x bs ok m e s i =
+    let z : label.saidLabel (decode f) (length (dataOf f)) b ≡ x = ap (λ (y : Request). label.saidLabel y (length (dataOf f)) b) m ∙ e in
     record {
       body = b;
       bytes = bs;
       wellFormed = fine-rules b bs ok;
-      speaks = ap speaks e ∙ s;
-      says = ap (λ (y : Answer). answerFrame y b) e ∙ i;
+      speaks = ap speaks z ∙ s;
+      says = ap (λ (y : Answer). answerFrame y b) z ∙ i;
+    }
+
+-- x is the body after f and n ends of frame
+give-later : (f b g x : List ℕ) (n : ℕ) → Bytes b → LabelFine b → after f b n ≡ x → label.saidLabel (bare k.EndOfFrame) 0 x ≡ a.Found
+    → answerFrame a.Found x ≡ g → SlotGives f g
+give-later f b g x n bs ok m e i =
+    let z : label.saidLabel (bare k.EndOfFrame) 0 (after f b n) ≡ a.Found = ap (label.saidLabel (bare k.EndOfFrame) 0) m ∙ e in
+    record {
+      body = b;
+      bytes = bs;
+      wellFormed = fine-rules b bs ok;
+      n = n;
+      speaks = ap speaks z;
+      says = ap₂ answerFrame z m ∙ i;
     }
 
 -- it acts
-acts-made : (to : Target) (uid u b : List ℕ) → getD b 14 0 ≡ 3 → part 0 8 b ≡ u → owned to uid u ≡ true → steps.acts to (uidMeant to uid) (label.loadOf b) ≡ true
+acts-made : (to : Target) (uid u b : List ℕ) → getD b 14 0 ≡ 3 → part 0 8 b ≡ u → owned to uid u ≡ true
+    → steps.acts to (uidMeant to uid) (label.loadOf b) ≡ true
 unfolding steps.acts steps.ready label.loadOf
 acts-made Everyone uid u b s e o = rw s
 acts-made Selected uid u b s e o = rw s
@@ -105,7 +121,7 @@ taken-small zero p h = lit< tt
 taken-small (suc k) p h = h
 
 -- 00 alone
-zero-alone : (s : List ℕ) → Success (doneOf s) → s ≡ 0 ∷ []
+zero-alone : (s : List ℕ) → IsSuccess (doneOf s) → s ≡ 0 ∷ []
 unfolding doneOf
 zero-alone s h =
     let e = and-both (eqb (length s) 1) (eqb (getD s 0 0) 0) (fits-true (eqb (length s) 1 && eqb (getD s 0 0) 0) (said m.Done) h) in
@@ -128,7 +144,7 @@ record Shape (option : Bool) (s : List ℕ) : Type 0 where
   most : length rest ≤ 32
   is : blockContent option lock rest ≡ s
 
-shape : (option : Bool) (s : List ℕ) → Bytes s → Success (blockOf option s) → Shape option s
+shape : (option : Bool) (s : List ℕ) → Bytes s → IsSuccess (blockOf option s) → Shape option s
 unfolding blockOf
 shape true s bs h =
     let e0 = fits-true (leb 3 (length s) && (leb (length s) 34 && (eqb (getD s 0 0) 0 && leb (getD s 1 0) 1))) _ h in
@@ -209,13 +225,11 @@ module _ (to : Target) (option : Bool) (p : ℕ) (uid d : List ℕ) (hu : length
     asked : {b u s : List ℕ} {dsfid afi last ic lock : ℕ} (g : List ℕ) (x : Answer) → Body b u dsfid afi last ic lock s → owned to uid u ≡ true
         → Says task b x → speaks x ≡ true → answerFrame x b ≡ g → LabelGives (sent task) g
     asked {b} {u} g x y o z w i =
-        give (sent task) b g x (y .bytes) (y .ok)
-        (ap (λ (r : Request). label.saidLabel r (length (dataOf (sent task))) b) (label-meant to option task p uid d v hu)
-        ∙ said-acts b (y .state) (acts-made to uid u b (y .state) (y .uid) o) z)
-        w i
+        give (sent task) b g _ x (y .bytes) (y .ok) (label-meant to option task p uid d v hu)
+        (said-acts b (y .state) (acts-made to uid u b (y .state) (y .uid) o) z) w i
 
     -- k bytes in a block: those sent, or one
-    done-given : (s : List ℕ) (k : ℕ) → rowOf task .success ≡ Done → Success (successOf to option (rowOf task .success) uid s) → 1 ≤ k → k ≤ 32
+    done-given : (s : List ℕ) (k : ℕ) → rowOf task .success ≡ Done → IsSuccess (successOf to option (rowOf task .success) uid s) → 1 ≤ k → k ≤ 32
         → ((b x : List ℕ) → length x ≡ k → Body b uid 0 0 255 0 0 x → Says task b a.Done) → LabelGives (sent task) (framed s)
     unfolding successOf
     done-given s k e z lo hi f =
@@ -228,7 +242,7 @@ module _ (to : Target) (option : Bool) (p : ℕ) (uid d : List ℕ) (hu : length
         asked (framed s) a.Done y (own-uid to uid) (f b x l y) refl (done-frame b ∙ ap framed (sym (zero-alone s (rw e at z))))
 
     -- every block holds what was read
-    block-given : (s : List ℕ) → Bytes s → rowOf task .success ≡ Block → Success (successOf to option (rowOf task .success) uid s)
+    block-given : (s : List ℕ) → Bytes s → rowOf task .success ≡ Block → IsSuccess (successOf to option (rowOf task .success) uid s)
         → ((b : List ℕ) → getD b 11 0 ≡ 255 → Says task b (a.Block (taken task p) option)) → LabelGives (sent task) (framed s)
     unfolding successOf
     block-given s bs e z f =
@@ -241,7 +255,7 @@ module _ (to : Target) (option : Bool) (p : ℕ) (uid d : List ℕ) (hu : length
         (block-frame n option (w .lock) b (w .rest) (y .locked n h) (y .block n h) ∙ ap framed (w .is))
 
     -- a label with the numbers that were read
-    info-given : (s : List ℕ) → Bytes s → rowOf task .success ≡ Info → Success (successOf to option (rowOf task .success) uid s)
+    info-given : (s : List ℕ) → Bytes s → rowOf task .success ≡ Info → IsSuccess (successOf to option (rowOf task .success) uid s)
         → ((b : List ℕ) → Says task b a.Info) → LabelGives (sent task) (framed s)
     unfolding successOf infoOf
     info-given s bs e z f =
@@ -264,14 +278,15 @@ module _ (to : Target) (option : Bool) (p : ℕ) (uid d : List ℕ) (hu : length
         in
         let b = made u (getD s 10 0) (getD s 11 0) (getD s 12 0) (getD s 14 0) 0 x in
         asked (framed s) a.Info y (e4 .1) (f b) refl
-        (info-frame b s (omega (arith, sized-long b (y .ok .sized))) hs (eqb-true (getD s 0 0) 0 (e2 .0)) (eqb-true (getD s 1 0) 0x0F (e3 .0)) (y .uid) (y .dsfids)
-        (y .afis) (y .blocks) (omega (arith, y .size, l)) (y .ics))
+        (info-frame b s (omega (arith, sized-long b (y .ok .sized))) hs (eqb-true (getD s 0 0) 0 (e2 .0)) (eqb-true (getD s 1 0) 0x0F (e3 .0)) (y .uid)
+        (y .dsfids) (y .afis) (y .blocks) (omega (arith, y .size, l)) (y .ics))
 
   -- ---- a success read to a label command is one that some well-formed label gives
 
-  task-given : (task : Task) (s : List ℕ) → valid (c.Label to option task p) (length d) ≡ true → Bytes s → Success (successOf to option (rowOf task .success) uid s)
-      → LabelGives (sent task) (framed s)
-  unfolding rowOf successOf steps.perform steps.readBlock steps.writeBlock steps.lockBlock steps.writeAfi steps.lockAfi steps.writeDsfid steps.lockDsfid steps.ended label.loadOf
+  task-given : (task : Task) (s : List ℕ) → valid (c.Label to option task p) (length d) ≡ true → Bytes s
+      → IsSuccess (successOf to option (rowOf task .success) uid s) → LabelGives (sent task) (framed s)
+  unfolding rowOf successOf steps.perform steps.readBlock steps.writeBlock steps.lockBlock steps.writeAfi steps.lockAfi steps.writeDsfid steps.lockDsfid
+      steps.ended label.loadOf
   task-given t.Quiet s v bs z = absurd (omega arith)
   task-given t.Read s v bs z = block-given t.Read v s bs refl z (λ b e. rw (le-ltb (getD b 11 0) p (omega arith)))
   task-given t.Write s v bs z =
@@ -296,14 +311,14 @@ module _ (to : Target) (option : Bool) (p : ℕ) (uid d : List ℕ) (hu : length
   task-given t.Info s v bs z = info-given t.Info v s bs refl z (λ b. refl)
 
 pub label-given : (to : Target) (option : Bool) (task : Task) (p : ℕ) (uid d f : List ℕ) → length uid ≡ 8 → Bytes uid → p < 256 → Bytes f
-    → Success (readingOf (c.Label to option task p) uid (length d) f)
+    → IsSuccess (readingOf (c.Label to option task p) uid (length d) f)
     → ((code : ℕ) → readingOf (c.Label to option task p) uid (length d) f .meaning ≡ m.Error code → ⊥)
     → LabelGives (encode (c.Label to option task p) uid d) f
 unfolding shapeOf
 label-given to option task p uid d f hu bu hp bs h ne =
     let y = told-right (c.Label to option task p) uid (length d) f bs h in
     let s = content f in
-    let w = plain-success to option task uid s (subst Success (y .shape) h) (λ code q. ne code (ap (λ (x : Reading). x .meaning) (y .shape) ∙ q)) in
+    let w = plain-success to option task uid s (subst IsSuccess (y .shape) h) (λ code q. ne code (ap (λ (x : Reading). x .meaning) (y .shape) ∙ q)) in
     subst (LabelGives (encode (c.Label to option task p) uid d)) (sym (y .frame))
     (task-given to option p uid d hu bu hp task s (y .fields) (bytes-take (length f - 2) f bs) w)
 
@@ -335,7 +350,8 @@ record Seen (family : Family) (mask bits : ℕ) (s b : List ℕ) : Type 0 where
 abbrev seer : Family → List ℕ → List ℕ
 seer family s = made (part 2 8 s) (getD s 1 0) (familyAfi family) 0 0 0 (0 ∷ [])
 
-seen : (family : Family) (mask bits : ℕ) (s : List ℕ) → RangedFamily family → Bytes s → Success (foundOf bits mask s) → Seen family mask bits s (seer family s)
+seen : (family : Family) (mask bits : ℕ) (s : List ℕ) → RangedFamily family → Bytes s → IsSuccess (foundOf bits mask s) → Seen family mask bits s
+    (seer family s)
 unfolding foundOf takesPart steps.heeds steps.ready label.loadOf
 seen family mask bits s r bs h =
     let u = part 2 8 s in
@@ -372,19 +388,18 @@ said-one family bits mask n b s o q =
 
 -- a success read to an Inventory of one slot is one that some well-formed label gives
 pub one-slot-given : (to : Target) (option : Bool) (family : Family) (bits mask : ℕ) (uid d f : List ℕ) → RangedFamily family → Bytes f
-    → Success (readingOf (c.Inventory to option family false bits mask) uid (length d) f) → LabelGives (encode (c.Inventory to option family false bits mask) uid d) f
+    → IsSuccess (readingOf (c.Inventory to option family false bits mask) uid (length d) f)
+    → LabelGives (encode (c.Inventory to option family false bits mask) uid d) f
 unfolding shapeOf
 one-slot-given to option family bits mask uid d f r bs h =
     let command = c.Inventory to option family false bits mask in
     let y = told-right command uid (length d) f bs h in
     let s = content f in
-    let w = seen family mask bits s r (bytes-take (length f - 2) f bs) (subst Success (y .shape) h) in
+    let w = seen family mask bits s r (bytes-take (length f - 2) f bs) (subst IsSuccess (y .shape) h) in
     let b = seer family s in
     let g = encode command uid d in
-    give g b f a.Found (w .bytes) (w .ok)
-    (ap (λ (i : Request). label.saidLabel i (length (dataOf g)) b) (inventory-meant to option family false bits mask uid d (y .fields))
-    ∙ said-one family bits mask (length (dataOf g)) b (w .state) (w .takes) (w .ends))
-    refl (found-frame b ∙ w .frame ∙ sym (y .frame))
+    give g b f _ a.Found (w .bytes) (w .ok) (inventory-meant to option family false bits mask uid d (y .fields))
+    (said-one family bits mask (length (dataOf g)) b (w .state) (w .takes) (w .ends)) refl (found-frame b ∙ w .frame ∙ sym (y .frame))
 
 -- in slot q of sixteen
 slot-ends : (u : List ℕ) (mask bits q : ℕ) → endsIn u mask bits ≡ true → num u / 2 ^ bits % 16 ≡ q → endsInSlot u mask bits q ≡ true
@@ -400,8 +415,8 @@ slot-frame family bits mask q b o =
     (ap (λ (l : List ℕ). getD l 8 0) (during-taking family bits mask q b o) ∙ seek-getD q bits mask b 8 (lit< tt))
     (during-uid family bits mask q b)
 
-module _ (to : Target) (option : Bool) (family : Family) (bits mask : ℕ) (uid d : List ℕ) (v : valid (c.Inventory to option family true bits mask) (length d) ≡ true)
-    (s b : List ℕ) (w : Seen family mask bits s b) where
+module _ (to : Target) (option : Bool) (family : Family) (bits mask : ℕ) (uid d : List ℕ)
+    (v : valid (c.Inventory to option family true bits mask) (length d) ≡ true) (s b : List ℕ) (w : Seen family mask bits s b) where
   abbrev g : List ℕ
   g = encode (c.Inventory to option family true bits mask) uid d
 
@@ -413,32 +428,19 @@ module _ (to : Target) (option : Bool) (family : Family) (bits mask : ℕ) (uid 
 
   first-given : slot ≡ 0 → LabelGives g (framed s)
   first-given e =
-      give g b (framed s) a.Found (w .bytes) (w .ok)
-      (ap (λ (i : Request). label.saidLabel i (length (dataOf g)) b) (inventory-meant to option family true bits mask uid d v)
-      ∙ said-first family bits mask (length (dataOf g)) b
+      give g b (framed s) _ a.Found (w .bytes) (w .ok) (inventory-meant to option family true bits mask uid d v)
+      (said-first family bits mask (length (dataOf g)) b
       ∙ if-true (takesPart family b && endsInSlot (part 0 8 b) mask bits 0) a.Found a.Silent (both-true 0 e))
       refl (found-frame b ∙ w .frame)
 
   later-given : (q : ℕ) → q < 15 → slot ≡ suc q → SlotGives g (framed s)
   later-given q h e =
       let i = valid-inventory to option family true bits mask (length d) v in
-      let x = during family bits mask q b in
-      let z : after g b q ≡ x =
-      after-slot g family bits mask b (w .bytes) (w .ok) (i .short) (i .low) (inventory-meant to option family true bits mask uid d v) q (omega arith)
-      in
-      let j : label.saidLabel (bare k.EndOfFrame) 0 (after g b q) ≡ a.Found =
-      ap (label.saidLabel (bare k.EndOfFrame) 0) z
-      ∙ said-step family bits mask b (w .ok) (i .short) (i .low) q 0 h
-      ∙ if-true (takesPart family b && endsInSlot (part 0 8 b) mask bits (suc q)) a.Found a.Silent (both-true (suc q) e)
-      in
-      record {
-        body = b;
-        bytes = w .bytes;
-        wellFormed = fine-rules b (w .bytes) (w .ok);
-        n = q;
-        speaks = ap speaks j;
-        says = ap₂ answerFrame j z ∙ slot-frame family bits mask q b (w .takes) ∙ w .frame;
-      }
+      give-later g b (framed s) (during family bits mask q b) q (w .bytes) (w .ok)
+      (after-slot g family bits mask b (w .bytes) (w .ok) (i .short) (i .low) (inventory-meant to option family true bits mask uid d v) q (omega arith))
+      (said-step family bits mask b (w .ok) (i .short) (i .low) q 0 h
+      ∙ if-true (takesPart family b && endsInSlot (part 0 8 b) mask bits (suc q)) a.Found a.Silent (both-true (suc q) e))
+      (slot-frame family bits mask q b (w .takes) ∙ w .frame)
 
   slot-given : (q : ℕ) → slot ≡ q → LabelGives g (framed s) ⊎ SlotGives g (framed s)
   slot-given zero e = inl (first-given e)
@@ -448,7 +450,7 @@ module _ (to : Target) (option : Bool) (family : Family) (bits mask : ℕ) (uid 
 
 -- a success read to an Inventory of sixteen slots is one that some well-formed label gives, to the frame or in a later slot
 pub sixteen-given : (to : Target) (option : Bool) (family : Family) (bits mask : ℕ) (uid d f : List ℕ) → RangedFamily family → Bytes f
-    → Success (readingOf (c.Inventory to option family true bits mask) uid (length d) f)
+    → IsSuccess (readingOf (c.Inventory to option family true bits mask) uid (length d) f)
     → LabelGives (encode (c.Inventory to option family true bits mask) uid d) f ⊎ SlotGives (encode (c.Inventory to option family true bits mask) uid d) f
 unfolding shapeOf
 sixteen-given to option family bits mask uid d f r bs h =
@@ -456,7 +458,7 @@ sixteen-given to option family bits mask uid d f r bs h =
     let y = told-right command uid (length d) f bs h in
     let s = content f in
     let b = seer family s in
-    let w = seen family mask bits s r (bytes-take (length f - 2) f bs) (subst Success (y .shape) h) in
+    let w = seen family mask bits s r (bytes-take (length f - 2) f bs) (subst IsSuccess (y .shape) h) in
     let g = encode command uid d in
     subst (λ (l : List ℕ). LabelGives g l ⊎ SlotGives g l) (sym (y .frame))
     (slot-given to option family bits mask uid d (y .fields) s b w (num (part 0 8 b) / 2 ^ bits % 16) refl)

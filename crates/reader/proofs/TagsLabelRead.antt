@@ -2,8 +2,7 @@
 -- an answer whose reading is known, so the law of the step is the law of its ends.
 -- Assumes nothing.
 use mathlib.Core.Path.{_≡_, refl, sym, ap, subst, _∙_}
-use mathlib.Core.Logic.{_⊎_, inl, inr}
-use mathlib.Core.Bool.{Bool, true, false, not, _&&_, _||_, false≢true}
+use mathlib.Core.Bool.{Bool, true, false, not, _&&_, false≢true}
 use mathlib.Core.List.{List, []}
 use Prim.Native.Nat.{ℕ, zero, suc, _+_, _-_, _/_, _%_, _^_, _≤_, _<_}
 use native.Mathlib.Omega.{arith}
@@ -17,7 +16,7 @@ use Rattle.frame.specs.Judge.{fine}
 use Rattle.frame.specs.Ending.{endsIn, endsInSlot}
 use Rattle.frame.specs.declared.verdict.Verdict.{Verdict}
 use Rattle.frame.proofs.Bools.{and-both, eqb-same, if-either}
-use Rattle.request.specs.Table.{rowOf, answers}
+use Rattle.request.specs.Table.{rowOf, hasAnswer}
 use Rattle.request.specs.declared.table.Task.{Task}
 use Rattle.request.specs.declared.table.Task.the-variants as t
 use Rattle.request.specs.declared.table.Success as row
@@ -25,7 +24,6 @@ use Rattle.request.specs.declared.table.Success.the-variants as s
 use Rattle.request.specs.declared.label.Target.{Target}
 use Rattle.request.specs.declared.label.Target.the-variants.{Everyone, Selected, One}
 use Rattle.request.specs.declared.label.Family.{Family}
-use Rattle.request.specs.declared.label.Family.the-variants.{Only}
 use Rattle.request.specs.declared.label.Call.the-variants as k
 use Rattle.request.specs.declared.label.Request.{Request}
 use Rattle.request.specs.Label.{bare, decode, dataOf}
@@ -38,19 +36,17 @@ use Rattle.label.specs.Body as label
 use Rattle.label.specs.Answer.{speaks, answerFrame}
 use Rattle.label.specs.Facts.{LabelFine}
 use Rattle.label.specs.Slots.{takesPart, clear, during}
-use Rattle.label.proofs.Fine.{rules-fine}
-use Rattle.label.proofs.Room.{sized-long}
+use Rattle.label.proofs.FactsFine.{rules-fine}
+use Rattle.label.proofs.BodyRoom.{sized-long}
 use Rattle.label.proofs.Slots.{during-uid, first, next-none, step, last, said-none, said-step, said-last}
-use Rattle.reader.specs.declared.command.Command.{Command}
 use Rattle.reader.specs.declared.command.Command.the-variants as c
-use Rattle.reader.specs.declared.answer.Reading.{Reading}
 use Rattle.reader.specs.Command.{valid}
 use Rattle.reader.specs.Request.{parameter, encode, uidMeant, labelMeant}
 use Rattle.reader.specs.Answer.{errorCode, owned, readingOf}
 use Rattle.reader.specs.Tags.{LabelGives, SlotGives, after}
 use Rattle.reader.proofs.CommandValid.{valid-inventory}
 use Rattle.reader.proofs.RequestMeant.{label-meant, inventory-meant}
-use Rattle.reader.proofs.AnswerSuccess.{Success, as-read}
+use Rattle.reader.proofs.AnswerSuccess.{IsSuccess, as-read}
 use Rattle.reader.proofs.AnswerRead.{error-read, done-read, block-read, info-read, found-read}
 
 -- ---- labels
@@ -58,7 +54,7 @@ use Rattle.reader.proofs.AnswerRead.{error-read, done-read, block-read,
 -- what a label can answer to a task with such a success: to is the target, p the task's parameter
 data Given (to : Target) (option : Bool) (p : ℕ) (uid b : List ℕ) : row.Success → Answer → Type 0 where
   silent : {success : row.Success} → Given to option p uid b success a.Silent
-  error : {success : row.Success} (code : ℕ) → answers success ≡ true → errorCode code ≡ true → Given to option p uid b success (a.Error code)
+  error : {success : row.Success} (code : ℕ) → hasAnswer success ≡ true → errorCode code ≡ true → Given to option p uid b success (a.Error code)
   done : Given to option p uid b s.Done a.Done
   block : p ≤ getD b 11 0 → Given to option p uid b s.Block (a.Block p option)
   info : owned to uid (part 0 8 b) ≡ true → Given to option p uid b s.Info a.Info
@@ -76,7 +72,8 @@ module _ (to : Target) (option : Bool) (p : ℕ) (uid b : List ℕ) where
 
   performs : (task : Task) (count lock : ℕ) → owned to uid (part 0 8 b) ≡ true
       → Gives task (steps.perform task p option count lock (steps.ended (label.loadOf b)))
-  unfolding rowOf steps.perform steps.readBlock steps.writeBlock steps.lockBlock steps.writeAfi steps.lockAfi steps.writeDsfid steps.lockDsfid steps.ended label.loadOf errorCode
+  unfolding rowOf steps.perform steps.readBlock steps.writeBlock steps.lockBlock steps.writeAfi steps.lockAfi steps.writeDsfid steps.lockDsfid steps.ended
+      label.loadOf errorCode
   performs t.Quiet count lock o = silent
   performs t.Read count lock o = if-either (Gives t.Read) (ltb (getD b 11 0) p) _ _ (λ q. error 0x10 refl refl) (λ q. block (ltb-false (getD b 11 0) p q))
   performs t.Write count lock o =
@@ -85,7 +82,8 @@ module _ (to : Target) (option : Bool) (p : ℕ) (uid b : List ℕ) where
       (λ q. if-either (Gives t.Write) (ltb (getD b 11 0) p) _ _ (λ q. error 0x10 refl refl)
       (λ q. if-either (Gives t.Write) (eqb lock 1) _ _ (λ q. error 0x12 refl refl) (λ q. done))))
   performs t.Lock count lock o =
-      if-either (Gives t.Lock) (ltb (getD b 11 0) p) _ _ (λ q. error 0x10 refl refl) (λ q. if-either (Gives t.Lock) (eqb lock 1) _ _ (λ q. error 0x11 refl refl) (λ q. done))
+      if-either (Gives t.Lock) (ltb (getD b 11 0) p) _ _ (λ q. error 0x10 refl refl)
+      (λ q. if-either (Gives t.Lock) (eqb lock 1) _ _ (λ q. error 0x11 refl refl) (λ q. done))
   performs t.Select count lock o = done
   performs t.Ready count lock o = done
   performs t.WriteAfi count lock o = if-either (Gives t.WriteAfi) (set? (bit 0 (getD b 10 0))) _ _ (λ q. error 0x12 refl refl) (λ q. done)
@@ -112,10 +110,10 @@ said-given to option task p uid count b = asked to option (getD (parameter (rowO
 -- each of them is read
 given-read : (to : Target) (option : Bool) (task : Task) (p q : ℕ) (uid : List ℕ) (n : ℕ) (b : List ℕ) → valid (c.Label to option task p) n ≡ true → LabelFine b
     → (success : row.Success) (x : Answer) → rowOf task .success ≡ success → Given to option q uid b success x → speaks x ≡ true
-    → Success (readingOf (c.Label to option task p) uid n (answerFrame x b))
+    → IsSuccess (readingOf (c.Label to option task p) uid n (answerFrame x b))
 given-read to option task p q uid n b v ok success x e silent w = absurd (false≢true w)
 given-read to option task p q uid n b v ok success x e (error code h z) w =
-    as-read _ _ (error-read to option task p uid n v code b (ap answers e ∙ h) z) refl
+    as-read _ _ (error-read to option task p uid n v code b (ap hasAnswer e ∙ h) z) refl
 given-read to option task p q uid n b v ok success x e done w = as-read _ _ (done-read to option task p uid n v b e) refl
 given-read to true task p q uid n b v ok success x e (block h) w = as-read _ _ (block-read to true task p uid n v q b ok h e) refl
 given-read to false task p q uid n b v ok success x e (block h) w = as-read _ _ (block-read to false task p uid n v q b ok h e) refl
@@ -127,16 +125,17 @@ fine-body b bs e = rules-fine b bs (ap (λ (x : Verdict). x .number) e)
 
 -- what a well-formed label answers to a label command is read
 pub label-gives : (to : Target) (option : Bool) (task : Task) (p : ℕ) (uid d g : List ℕ) → valid (c.Label to option task p) (length d) ≡ true → length uid ≡ 8
-    → LabelGives (encode (c.Label to option task p) uid d) g → Success (readingOf (c.Label to option task p) uid (length d) g)
+    → LabelGives (encode (c.Label to option task p) uid d) g → IsSuccess (readingOf (c.Label to option task p) uid (length d) g)
 label-gives to option task p uid d g v h y =
     let f = encode (c.Label to option task p) uid d in
     let b = y .body in
     let q = getD (parameter (rowOf task) p) 0 0 in
+    let n = length (dataOf f) in
     let w =
-    subst (λ (r : Request). Given to option q uid b (rowOf task .success) (label.saidLabel r (length (dataOf f)) b)) (sym (label-meant to option task p uid d v h))
-    (said-given to option task p uid (length (dataOf f)) b)
+    subst (λ (r : Request). Given to option q uid b (rowOf task .success) (label.saidLabel r n b)) (sym (label-meant to option task p uid d v h))
+    (said-given to option task p uid n b)
     in
-    subst (λ (x : List ℕ). Success (readingOf (c.Label to option task p) uid (length d) x)) (y .says)
+    subst (λ (x : List ℕ). IsSuccess (readingOf (c.Label to option task p) uid (length d) x)) (y .says)
     (given-read to option task p q uid (length d) b v (fine-body b (y .bytes) (y .wellFormed)) _ _ refl w (y .speaks))
 
 -- ---- Inventory
@@ -147,7 +146,7 @@ module _ (to : Target) (option : Bool) (family : Family) (sixteen : Bool) (bits 
     (v : valid (c.Inventory to option family sixteen bits mask) n ≡ true) (b : List ℕ) where
   -- an answer of b that, where it speaks, is read
   abbrev Found : Answer → Type 0
-  Found x = speaks x ≡ true → Success (readingOf (c.Inventory to option family sixteen bits mask) uid n (answerFrame x b))
+  Found x = speaks x ≡ true → IsSuccess (readingOf (c.Inventory to option family sixteen bits mask) uid n (answerFrame x b))
 
   none-found : Found a.Silent
   none-found s = absurd (false≢true s)
@@ -172,7 +171,7 @@ module _ (to : Target) (option : Bool) (family : Family) (sixteen : Bool) (bits 
 -- what a well-formed label answers to an Inventory is read
 pub inventory-gives : (to : Target) (option : Bool) (family : Family) (sixteen : Bool) (bits mask : ℕ) (uid d g : List ℕ)
     → valid (c.Inventory to option family sixteen bits mask) (length d) ≡ true → LabelGives (encode (c.Inventory to option family sixteen bits mask) uid d) g
-    → Success (readingOf (c.Inventory to option family sixteen bits mask) uid (length d) g)
+    → IsSuccess (readingOf (c.Inventory to option family sixteen bits mask) uid (length d) g)
 inventory-gives to option family sixteen bits mask uid d g v y =
     let f = encode (c.Inventory to option family sixteen bits mask) uid d in
     let b = y .body in
@@ -182,7 +181,7 @@ inventory-gives to option family sixteen bits mask uid d g v y =
     subst (λ (r : Request). P (label.saidLabel r n b)) (sym (inventory-meant to option family sixteen bits mask uid d v))
     (call-found to option family sixteen bits mask uid (length d) v b n (uid-long b (fine-body b (y .bytes) (y .wellFormed))))
     in
-    subst (λ (x : List ℕ). Success (readingOf (c.Inventory to option family sixteen bits mask) uid (length d) x)) (y .says) (w (y .speaks))
+    subst (λ (x : List ℕ). IsSuccess (readingOf (c.Inventory to option family sixteen bits mask) uid (length d) x)) (y .says) (w (y .speaks))
 
 -- ---- later slots
 
@@ -259,9 +258,9 @@ module _ (to : Target) (option : Bool) (family : Family) (bits mask : ℕ) (uid 
 -- what a well-formed label answers in a later slot of a sixteen-slot Inventory is read
 pub slot-gives : (to : Target) (option : Bool) (family : Family) (bits mask : ℕ) (uid d g : List ℕ)
     → valid (c.Inventory to option family true bits mask) (length d) ≡ true → SlotGives (encode (c.Inventory to option family true bits mask) uid d) g
-    → Success (readingOf (c.Inventory to option family true bits mask) uid (length d) g)
+    → IsSuccess (readingOf (c.Inventory to option family true bits mask) uid (length d) g)
 slot-gives to option family bits mask uid d g v y =
     let f = encode (c.Inventory to option family true bits mask) uid d in
     let ok = fine-body (y .body) (y .bytes) (y .wellFormed) in
     let w = after-said to option family bits mask uid (length d) v (y .body) ok f (y .bytes) (inventory-meant to option family true bits mask uid d v) (y .n) in
-    subst (λ (x : List ℕ). Success (readingOf (c.Inventory to option family true bits mask) uid (length d) x)) (y .says) (w (y .speaks))
+    subst (λ (x : List ℕ). IsSuccess (readingOf (c.Inventory to option family true bits mask) uid (length d) x)) (y .says) (w (y .speaks))

@@ -8,7 +8,7 @@ use native.Mathlib.Nat.{suc-mul}
 use native.Mathlib.Numerals.{add-one}
 use native.Mathlib.Omega.{arith}
 use lib.Dec.{lit<}
-use lib.ListN.{length, getD, take, replicate, length-append, length-replicate}
+use lib.ListN.{length, getD, take, replicate, length-append}
 use lib.Seq.{take-at, drop-at, getD-append-add}
 use Rattle.frame.specs.Number.{part, Bytes}
 use Rattle.frame.proofs.Lists.{window, window-all}
@@ -16,7 +16,7 @@ use Rattle.frame.proofs.Numbers.{bytes-append}
 use Rattle.frame.proofs.Stores.{bytes-cons}
 use Rattle.label.specs.Locks.{lockOn, lockRoom}
 use Rattle.label.specs.Body.{Sized, sizeOf, blockAt}
-use Rattle.label.proofs.Locked.{lockRun, run-length, run-bytes, run-room, run-lock, run-fine}
+use Rattle.label.proofs.LocksLaws.{lockRun, run-length, run-bytes, run-room, run-lock, run-fine}
 use Rattle.label.specs.Facts.{LabelFine}
 
 -- ---- lists of bytes
@@ -34,7 +34,7 @@ unfoldable pub again : ℕ → List ℕ → List ℕ
 again zero s = []
 again (suc n) s = s ++ again n s
 
-pub length-again : (n : ℕ) (s : List ℕ) → length (again n s) ≡ n * length s
+length-again : (n : ℕ) (s : List ℕ) → length (again n s) ≡ n * length s
 unfolding again
 length-again zero s = omega arith
 length-again (suc n) s = length-append s (again n s) ∙ omega (arith, length-again n s, suc-mul n (length s))

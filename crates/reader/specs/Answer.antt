@@ -10,7 +10,7 @@ use Rattle.frame.specs.CheckSum.{right, content}
 use Rattle.frame.specs.Ending.{endsIn}
 use Rattle.request.specs.declared.label.Target.{Target}
 use Rattle.request.specs.declared.label.Target.the-variants.{Everyone, Selected, One}
-use Rattle.request.specs.Table.{rowOf, answers}
+use Rattle.request.specs.Table.{rowOf, hasAnswer}
 use Rattle.request.specs.declared.table.Task.{Task}
 use Rattle.request.specs.declared.table.Success.{Success}
 use Rattle.request.specs.declared.table.Success.the-variants as s
@@ -90,7 +90,7 @@ successOf to option s.Info uid c = infoOf to uid c
 -- an error frame fits any label command that has an answer, save Inventory
 unfoldable pub labelReading : Target → Bool → Task → List ℕ → List ℕ → Reading
 labelReading to option task uid c =
-    if answers (rowOf task .success) && isError c then said (m.Error (getD c 1 0))
+    if hasAnswer (rowOf task .success) && isError c then said (m.Error (getD c 1 0))
     else successOf to option (rowOf task .success) uid c
 
 -- 00, DSFID, UID, which ends in the mask sent

@@ -90,10 +90,13 @@ writtenOf c uid d out =
     if eqb (refusalOf c (length d) (length out)) 0 then record { number = 0; length = length (encode c uid d) }
     else record { number = refusalOf c (length d) (length out); length = 0 }
 
--- bytes behind its frame stay
+-- a frame at the front of a buffer: bytes behind it stay
+abbrev pub atFront : List ℕ → List ℕ → List ℕ
+atFront f out = f ++ drop (length f) out
+
 unfoldable pub outOf : Command → List ℕ → List ℕ → List ℕ → List ℕ
 outOf c uid d out =
-    if eqb (refusalOf c (length d) (length out)) 0 then encode c uid d ++ drop (length (encode c uid d)) out
+    if eqb (refusalOf c (length d) (length out)) 0 then atFront (encode c uid d) out
     else out
 
 -- ---- what it means to the tags

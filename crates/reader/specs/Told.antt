@@ -7,8 +7,8 @@ use Rattle.reader.specs.declared.answer.Reading.{Reading}
 use Rattle.reader.specs.declared.told.Told.{Told}
 
 -- the numbers in the order of the struct: number, meaning, error; dsfid, afi, blocks, size, ic; lock, id, word; place, length; uid
-abbrev pub told : ℕ → ℕ → ℕ → ℕ → ℕ → ℕ → ℕ → ℕ → ℕ → ℕ → ℕ → ℕ → ℕ → ℕ → Told
-told number meaning error dsfid afi blocks size ic lock id word place long uid =
+abbrev pub toldBy : ℕ → ℕ → ℕ → ℕ → ℕ → ℕ → ℕ → ℕ → ℕ → ℕ → ℕ → ℕ → ℕ → ℕ → Told
+toldBy number meaning error dsfid afi blocks size ic lock id word place long uid =
     record {
       number = number;
       meaning = meaning;
@@ -28,16 +28,16 @@ told number meaning error dsfid afi blocks size ic lock id word place long uid =
 
 -- meanings count from 0: refused, error, done, inventory, block, block with lock byte, system information, Chip_ID, chip's block, chip's UID
 unfoldable pub toldAs : Meaning → ℕ → Told
-toldAs (m.Refused n) uid = told n 0 0 0 0 0 0 0 0 0 0 0 0 0
-toldAs (m.Error code) uid = told 0 1 code 0 0 0 0 0 0 0 0 0 0 0
-toldAs m.Done uid = told 0 2 0 0 0 0 0 0 0 0 0 0 0 0
-toldAs (m.Found dsfid) uid = told 0 3 0 dsfid 0 0 0 0 0 0 0 0 0 uid
-toldAs (m.Block place long) uid = told 0 4 0 0 0 0 0 0 0 0 0 place long 0
-toldAs (m.LockAndBlock lock place long) uid = told 0 5 0 0 0 0 0 0 lock 0 0 place long 0
-toldAs (m.Info dsfid afi blocks size ic) uid = told 0 6 0 dsfid afi blocks size ic 0 0 0 0 0 uid
-toldAs (m.Id id) uid = told 0 7 0 0 0 0 0 0 0 id 0 0 0 0
-toldAs (m.Word word) uid = told 0 8 0 0 0 0 0 0 0 0 word 0 0 0
-toldAs m.Uid uid = told 0 9 0 0 0 0 0 0 0 0 0 0 0 uid
+toldAs (m.Refused n) uid = toldBy n 0 0 0 0 0 0 0 0 0 0 0 0 0
+toldAs (m.Error code) uid = toldBy 0 1 code 0 0 0 0 0 0 0 0 0 0 0
+toldAs m.Done uid = toldBy 0 2 0 0 0 0 0 0 0 0 0 0 0 0
+toldAs (m.Found dsfid) uid = toldBy 0 3 0 dsfid 0 0 0 0 0 0 0 0 0 uid
+toldAs (m.Block place long) uid = toldBy 0 4 0 0 0 0 0 0 0 0 0 place long 0
+toldAs (m.LockAndBlock lock place long) uid = toldBy 0 5 0 0 0 0 0 0 lock 0 0 place long 0
+toldAs (m.Info dsfid afi blocks size ic) uid = toldBy 0 6 0 dsfid afi blocks size ic 0 0 0 0 0 uid
+toldAs (m.Id id) uid = toldBy 0 7 0 0 0 0 0 0 0 id 0 0 0 0
+toldAs (m.Word word) uid = toldBy 0 8 0 0 0 0 0 0 0 0 word 0 0 0
+toldAs m.Uid uid = toldBy 0 9 0 0 0 0 0 0 0 0 0 0 0 uid
 
 -- a UID is told as the number of its eight bytes
 unfoldable pub toldOf : Reading → Told

@@ -16,10 +16,11 @@ use request::table::row_of;
 ghost use mathlib.Core.Path.{_≡_};
 ghost use mathlib.Core.Bool.{true, false, _&&_};
 ghost use lib.Dec.{eqb, leb};
-ghost use Rattle.request.specs.Table.{answers};
+ghost use Rattle.request.specs.Table.{hasAnswer};
 ghost use Rattle.reader.specs.declared.command.ChipTask.the-variants.{Initiate, Marker, Select, Read, Uid};
 ghost use Rattle.reader.specs.declared.answer.Meaning.the-variants.{Refused};
-ghost use Rattle.reader.specs.Answer.{said, saidOf, errorCode, isError, doneOf, blockOf, owned, infoOf, successOf, labelReading, foundOf, chipReading, shapeOf, readingOf};
+ghost use Rattle.reader.specs.Answer.{said, saidOf, errorCode, isError, doneOf, blockOf, owned, infoOf, successOf, labelReading};
+ghost use Rattle.reader.specs.Answer.{foundOf, chipReading, shapeOf, readingOf};
 
 // What an answer means. UIDs stand beside the meaning; of a block the place of its bytes in the frame and how many there are.
 pub enum Meaning {
@@ -210,7 +211,7 @@ fn success_in(to: Target, option: bool, success: Success, uid: [u8; 8], c: &[u8]
 
 // Whether c is an error that a task can answer with.
 fn errs(success: Success, c: &[u8]) -> bool
-    ensures { λ r. ⌜ r ≡ answers success && isError (now (c .entry)) ⌝ }
+    ensures { λ r. ⌜ r ≡ hasAnswer success && isError (now (c .entry)) ⌝ }
 {
     if has_answer(success) {
         return is_error(c);

@@ -1,7 +1,7 @@
 // A reading as numbers, for C.
 use crate::answer::Meaning;
 ghost use mathlib.Core.Path.{_≡_};
-ghost use Rattle.reader.specs.Told.{told, toldAs};
+ghost use Rattle.reader.specs.Told.{toldBy, toldAs};
 
 // What a reading says; what does not go with its meaning is 0.
 #[repr(C)]
@@ -24,7 +24,7 @@ pub struct Told {
 
 // A meaning with nothing beside it.
 fn bare(meaning: u8) -> Told
-    ensures { λ r. ⌜ r ≡ told 0 meaning 0 0 0 0 0 0 0 0 0 0 0 0 ⌝ }
+    ensures { λ r. ⌜ r ≡ toldBy 0 meaning 0 0 0 0 0 0 0 0 0 0 0 0 ⌝ }
 {
     Told {
         number: 0,
@@ -45,35 +45,35 @@ fn bare(meaning: u8) -> Told
 }
 
 fn refused(number: u8) -> Told
-    ensures { λ r. ⌜ r ≡ told number 0 0 0 0 0 0 0 0 0 0 0 0 0 ⌝ }
+    ensures { λ r. ⌜ r ≡ toldBy number 0 0 0 0 0 0 0 0 0 0 0 0 0 ⌝ }
 {
     let t = bare(0);
     Told { number, ..t }
 }
 
 fn error(error: u8) -> Told
-    ensures { λ r. ⌜ r ≡ told 0 1 error 0 0 0 0 0 0 0 0 0 0 0 ⌝ }
+    ensures { λ r. ⌜ r ≡ toldBy 0 1 error 0 0 0 0 0 0 0 0 0 0 0 ⌝ }
 {
     let t = bare(1);
     Told { error, ..t }
 }
 
 fn found(dsfid: u8, uid: u64) -> Told
-    ensures { λ r. ⌜ r ≡ told 0 3 0 dsfid 0 0 0 0 0 0 0 0 0 uid ⌝ }
+    ensures { λ r. ⌜ r ≡ toldBy 0 3 0 dsfid 0 0 0 0 0 0 0 0 0 uid ⌝ }
 {
     let t = bare(3);
     Told { dsfid, uid, ..t }
 }
 
 fn block(place: usize, length: usize) -> Told
-    ensures { λ r. ⌜ r ≡ told 0 4 0 0 0 0 0 0 0 0 0 place «length» 0 ⌝ }
+    ensures { λ r. ⌜ r ≡ toldBy 0 4 0 0 0 0 0 0 0 0 0 place «length» 0 ⌝ }
 {
     let t = bare(4);
     Told { place, length, ..t }
 }
 
 fn locked_block(lock: u8, place: usize, length: usize) -> Told
-    ensures { λ r. ⌜ r ≡ told 0 5 0 0 0 0 0 0 lock 0 0 place «length» 0 ⌝ }
+    ensures { λ r. ⌜ r ≡ toldBy 0 5 0 0 0 0 0 0 lock 0 0 place «length» 0 ⌝ }
 {
     let t = bare(5);
     Told {
@@ -85,7 +85,7 @@ fn locked_block(lock: u8, place: usize, length: usize) -> Told
 }
 
 fn info(dsfid: u8, afi: u8, blocks: u8, size: u8, ic: u8, uid: u64) -> Told
-    ensures { λ r. ⌜ r ≡ told 0 6 0 dsfid afi blocks size ic 0 0 0 0 0 uid ⌝ }
+    ensures { λ r. ⌜ r ≡ toldBy 0 6 0 dsfid afi blocks size ic 0 0 0 0 0 uid ⌝ }
 {
     let t = bare(6);
     Told {
@@ -100,21 +100,21 @@ fn info(dsfid: u8, afi: u8, blocks: u8, size: u8, ic: u8, uid: u64) -> Told
 }
 
 fn chip_id(id: u8) -> Told
-    ensures { λ r. ⌜ r ≡ told 0 7 0 0 0 0 0 0 0 id 0 0 0 0 ⌝ }
+    ensures { λ r. ⌜ r ≡ toldBy 0 7 0 0 0 0 0 0 0 id 0 0 0 0 ⌝ }
 {
     let t = bare(7);
     Told { id, ..t }
 }
 
 fn word(word: u32) -> Told
-    ensures { λ r. ⌜ r ≡ told 0 8 0 0 0 0 0 0 0 0 word 0 0 0 ⌝ }
+    ensures { λ r. ⌜ r ≡ toldBy 0 8 0 0 0 0 0 0 0 0 word 0 0 0 ⌝ }
 {
     let t = bare(8);
     Told { word, ..t }
 }
 
 fn chip_uid(uid: u64) -> Told
-    ensures { λ r. ⌜ r ≡ told 0 9 0 0 0 0 0 0 0 0 0 0 0 uid ⌝ }
+    ensures { λ r. ⌜ r ≡ toldBy 0 9 0 0 0 0 0 0 0 0 0 0 0 uid ⌝ }
 {
     let t = bare(9);
     Told { uid, ..t }
@@ -125,7 +125,7 @@ pub fn tell(meaning: Meaning, uid: u64) -> Told
 {
     match meaning {
         Meaning::Refused(n) => refused(n),
-        Meaning::Error(e) => error(e),
+        Meaning::Error(code) => error(code),
         Meaning::Done => bare(2),
         Meaning::Found(dsfid) => found(dsfid, uid),
         Meaning::Block(at, n) => block(at, n),

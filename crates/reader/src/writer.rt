@@ -11,14 +11,14 @@ use request::label::Target;
 use request::table::Row;
 use request::table::row_of;
 ghost use mathlib.Core.Path.{_≡_};
-ghost use mathlib.Core.List.{_++_};
 ghost use Prim.Native.Nat.{_+_, _*_, _≤_, _<_};
-ghost use lib.ListN.{length, drop};
+ghost use lib.ListN.{length};
 ghost use Rattle.frame.specs.Choose.{if_then_else_};
 ghost use Rattle.frame.specs.CheckSum.{framed};
 ghost use Rattle.frame.specs.Ending.{bytesFor};
-ghost use Rattle.reader.specs.Request.{mode, flags, writtenOf, outOf};
-ghost use Rattle.reader.specs.Plan.{partsOf, uidCount, labelPlan, shortPlan, maskPlan, inventoryPlan, chipPlan, planOf, RangedFamily, RangedChip, Ranged, PlanFits};
+ghost use Rattle.reader.specs.Request.{mode, flags, atFront, writtenOf, outOf};
+ghost use Rattle.reader.specs.Plan.{partsOf, uidCount, labelPlan, shortPlan, maskPlan, inventoryPlan, chipPlan, planOf};
+ghost use Rattle.reader.specs.Plan.{RangedFamily, RangedChip, Ranged, PlanFits};
 
 // The room that every output buffer has.
 const LEAST: usize = 64;
@@ -219,7 +219,7 @@ fn plan_for(c: Command, n: usize) -> Plan
 fn lay(p: Plan, uid: [u8; 8], data: &[u8], out: &mut [u8]) -> Written
     requires { ⌜ PlanFits p (length (now «data»)) (length (now out)) ⌝ }
     ensures { λ r. ⌜ (r ≡ record { number = 0; «length» = length (framed (partsOf p uid (now («data» .entry)))) })
-        × (now (out .exit) ≡ framed (partsOf p uid (now («data» .entry))) ++ drop (length (framed (partsOf p uid (now («data» .entry))))) (now (out .entry))) ⌝ }
+        × (now (out .exit) ≡ atFront (framed (partsOf p uid (now («data» .entry)))) (now (out .entry))) ⌝ }
 {
     let a = put_number(out, 0, p.head, p.heads);
     let b = put_bytes(out, a, &uid, p.uids);

@@ -1,4 +1,4 @@
--- The ways out of the request's functions where a test is on more than plain numbers: each rule of `masked`, `known`, `call`, `decode` and `dataOf`,
+-- The ways out of the request's functions where a test is on more than plain numbers: each rule of `masked`, `byRow`, `call`, `decode` and `dataOf`,
 -- by the facts that choose its case.
 -- Assumes nothing.
 use mathlib.Core.Path.{_≡_, _∙_}
@@ -19,7 +19,7 @@ use Rattle.request.specs.declared.label.Call.the-variants.{Nobody, Inven
 use Rattle.request.specs.declared.table.Row.{Row}
 use Rattle.request.specs.declared.table.Found.the-variants.{Known, Missing}
 use Rattle.request.specs.Table.{table, lookup, optionFits}
-use Rattle.request.specs.Label.{flag, bare, nobody, most, masked, targetFits, faulty, known, checked, call, addressing, decode, dataOf}
+use Rattle.request.specs.Label.{flag, bare, nobody, most, masked, targetFits, faulty, byRow, checked, call, addressing, decode, dataOf}
 
 -- ---- masks
 module _ (family : Family) (sixteen : Bool) (at : ℕ) (f : List ℕ) {n : ℕ} (e : n ≡ most sixteen) where
@@ -38,35 +38,35 @@ module _ (family : Family) (sixteen : Bool) (at : ℕ) (f : List ℕ) {n : ℕ} 
 
 -- ---- a code with its row
 module _ (to : Target) (option : Bool) (ps : List ℕ) (row : Row) {t : Bool} (e : t ≡ targetFits row to) where
-  pub known-nobody : t ≡ false → known to option ps row ≡ Nobody
-  unfolding known
-  known-nobody h = rw (← e, h)
+  pub row-nobody : t ≡ false → byRow to option ps row ≡ Nobody
+  unfolding byRow
+  row-nobody h = rw (← e, h)
 
   module _ (fit : t ≡ true) {p : ℕ} (q : p ≡ getD ps 0 0) where
-    pub known-block : row .block ≡ true → known to option ps row ≡ Do to (row .task) p option
-    unfolding known
-    known-block h = rw (← e, fit, h, q)
+    pub row-block : row .block ≡ true → byRow to option ps row ≡ Do to (row .task) p option
+    unfolding byRow
+    row-block h = rw (← e, fit, h, q)
 
     module _ (z : row .block ≡ false) where
-      pub known-length : (length ps + 4 ≡ row .len → ⊥) → known to option ps row ≡ faulty to row 2
-      unfolding known
-      known-length h = rw (← e, fit, z, ne-eqb _ _ h)
+      pub row-length : (length ps + 4 ≡ row .len → ⊥) → byRow to option ps row ≡ faulty to row 2
+      unfolding byRow
+      row-length h = rw (← e, fit, z, ne-eqb _ _ h)
 
       module _ (l : length ps + 4 ≡ row .len) {o : Bool} (f : o ≡ optionFits row option) where
-        pub known-fits : o ≡ true → known to option ps row ≡ Do to (row .task) p option
-        unfolding known
-        known-fits h = rw (← e, fit, z, eq-eqb _ _ l, ← f, h, q)
+        pub row-fits : o ≡ true → byRow to option ps row ≡ Do to (row .task) p option
+        unfolding byRow
+        row-fits h = rw (← e, fit, z, eq-eqb _ _ l, ← f, h, q)
 
-        pub known-option : o ≡ false → known to option ps row ≡ faulty to row 3
-        unfolding known
-        known-option h = rw (← e, fit, z, eq-eqb _ _ l, ← f, h)
+        pub row-option : o ≡ false → byRow to option ps row ≡ faulty to row 3
+        unfolding byRow
+        row-option h = rw (← e, fit, z, eq-eqb _ _ l, ← f, h)
 
 module _ (to : Target) (c : ℕ) (option : Bool) (ps : List ℕ) (z : c ≡ 1 → ⊥) where
   pub call-unknown : lookup c table ≡ Missing → call to c option ps ≡ Fault to 1
   unfolding call checked
   call-unknown e = rw (ne-eqb _ _ z, e)
 
-  pub call-known : (row : Row) → lookup c table ≡ Known row → call to c option ps ≡ known to option ps row
+  pub call-known : (row : Row) → lookup c table ≡ Known row → call to c option ps ≡ byRow to option ps row
   unfolding call checked
   call-known row e = rw (ne-eqb _ _ z, e)
 

@@ -140,7 +140,9 @@ module _ (m e : ℕ) (h : e < 2 ^ m) (p : List ℕ) (at : ℕ) (q : length p ≡
   unfolding maskAt
   mask-back =
       let l : length (p ++ (m ∷ [])) ≡ at + 1 = omega (arith, length-append p (m ∷ [])) in
-      let r : p ++ (m ∷ bs) ≡ (p ++ (m ∷ [])) ++ (bs ++ []) = ap (λ (s : List ℕ). p ++ (m ∷ s)) (sym (append-nil bs)) ∙ sym (append-assoc p (m ∷ []) (bs ++ [])) in
+      let r : p ++ (m ∷ bs) ≡ (p ++ (m ∷ [])) ++ (bs ++ []) =
+      ap (λ (s : List ℕ). p ++ (m ∷ s)) (sym (append-nil bs)) ∙ sym (append-assoc p (m ∷ []) (bs ++ []))
+      in
       ap (λ (s : List ℕ). num (part (at + 1) (bytesFor m) (framed s)) % 2 ^ m) r
       ∙ ap (λ (s : List ℕ). num s % 2 ^ m) (part-framed (p ++ (m ∷ [])) bs [] (at + 1) (bytesFor m) l (length-bytes (bytesFor m) e))
       ∙ ap (λ (n : ℕ). n % 2 ^ m) (mask-number m e h)

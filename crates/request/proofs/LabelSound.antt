@@ -24,8 +24,9 @@ use Rattle.request.specs.declared.label.Family.the-variants.{Any, Only}
 use Rattle.request.specs.declared.label.Call.{Call}
 use Rattle.request.specs.declared.label.Call.the-variants.{Ignored, Off, On, EndOfFrame, Nobody, Inventory, Fault, Do}
 use Rattle.request.specs.declared.label.Request.{Request}
-use Rattle.request.specs.Table.{table, lookup, answers, optionFits}
-use Rattle.request.specs.Label.{flag, bare, nobody, most, masked, inventory, targetFits, faulty, known, checked, call, params, addressed, unaddressed, addressing, decode, heard, dataOf}
+use Rattle.request.specs.Table.{table, lookup, hasAnswer, optionFits}
+use Rattle.request.specs.Label.{flag, bare, nobody, most, masked, inventory, targetFits, faulty, byRow, checked, call, params, addressed}
+use Rattle.request.specs.Label.{unaddressed, addressing, decode, heard, dataOf}
 
 -- a mask is no longer than allowed and has no bits above its length; a parameter is a byte
 unfoldable pub Sound : Call → Type 0
@@ -68,11 +69,11 @@ Kept r = Sound (r .call)
 
 faulty-sound : (to : Target) (row : Row) (code : ℕ) → Sound (faulty to row code)
 unfolding Sound
-faulty-sound to row code = if-both Sound (answers (row .success)) tt tt
+faulty-sound to row code = if-both Sound (hasAnswer (row .success)) tt tt
 
-known-sound : (to : Target) (option : Bool) (ps : List ℕ) (row : Row) → Bytes ps → Sound (known to option ps row)
-unfolding known Sound
-known-sound to option ps row h =
+row-sound : (to : Target) (option : Bool) (ps : List ℕ) (row : Row) → Bytes ps → Sound (byRow to option ps row)
+unfolding byRow Sound
+row-sound to option ps row h =
     if-both Sound (not (targetFits row to)) tt
     (if-both Sound (row .block) (h 0)
     (if-both Sound (not (eqb (length ps + 4) (row .len))) (faulty-sound to row 2)
@@ -81,7 +82,7 @@ known-sound to option ps row h =
 checked-sound : (to : Target) (option : Bool) (ps : List ℕ) (found : Found) → Bytes ps → Sound (checked to option ps found)
 unfolding checked Sound
 checked-sound to option ps Missing h = tt
-checked-sound to option ps (Known row) h = known-sound to option ps row h
+checked-sound to option ps (Known row) h = row-sound to option ps row h
 
 call-sound : (to : Target) (c : ℕ) (option : Bool) (ps : List ℕ) → Bytes ps → Sound (call to c option ps)
 unfolding call Sound

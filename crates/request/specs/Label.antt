@@ -8,7 +8,7 @@ use Rattle.frame.specs.Choose.{if_then_else_, bit, set?}
 use Rattle.frame.specs.Number.{part}
 use Rattle.frame.specs.CheckSum.{right}
 use Rattle.frame.specs.Ending.{bytesFor, maskAt}
-use Rattle.request.specs.Table.{table, lookup, answers, optionFits}
+use Rattle.request.specs.Table.{table, lookup, hasAnswer, optionFits}
 use Rattle.request.specs.declared.table.Row.{Row}
 use Rattle.request.specs.declared.table.Found.{Found}
 use Rattle.request.specs.declared.table.Found.the-variants.{Known, Missing}
@@ -63,12 +63,12 @@ targetFits row to = not (row .one) || isOne to
 
 -- an error, of a task that has an answer
 abbrev pub faulty : Target → Row → ℕ → Call
-faulty to row code = if answers (row .success) then Fault to code else Nobody
+faulty to row code = if hasAnswer (row .success) then Fault to code else Nobody
 
 -- by its code's row, ps its parameters: without the UID that it takes, silence; length, error 02; Option where none is allowed, 03.
 -- Length and Option of 21 are its label's affair.
-unfoldable pub known : Target → Bool → List ℕ → Row → Call
-known to option ps row =
+unfoldable pub byRow : Target → Bool → List ℕ → Row → Call
+byRow to option ps row =
     if not (targetFits row to) then Nobody
     else if row .block then Do to (row .task) (getD ps 0 0) option
     else if not (eqb (length ps + 4) (row .len)) then faulty to row 2
@@ -78,7 +78,7 @@ known to option ps row =
 -- unknown code, error 01
 unfoldable pub checked : Target → Bool → List ℕ → Found → Call
 checked to option ps Missing = Fault to 1
-checked to option ps (Known row) = known to option ps row
+checked to option ps (Known row) = byRow to option ps row
 
 -- command 01 here: silence
 unfoldable pub call : Target → ℕ → Bool → List ℕ → Call

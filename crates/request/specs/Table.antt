@@ -50,11 +50,11 @@ lookup c [] = Missing
 lookup c (r ∷ rs) = if eqb (r .code) c then Known r else lookup c rs
 
 -- Stay quiet is always silent
-abbrev pub answers : Success → Bool
-answers Never = false
-answers Done = true
-answers Block = true
-answers Info = true
+abbrev pub hasAnswer : Success → Bool
+hasAnswer Never = false
+hasAnswer Done = true
+hasAnswer Block = true
+hasAnswer Info = true
 
 -- Option on any but those that may have it is wrong
 abbrev pub optionFits : Row → Bool → Bool

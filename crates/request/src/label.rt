@@ -10,11 +10,10 @@ use frame::number::byte_at;
 use frame::uid::mask_at;
 use frame::uid::uid_at;
 ghost use mathlib.Core.Path.{_≡_};
-ghost use mathlib.Core.Bool.{not};
 ghost use Prim.Native.Nat.{_≤_, _<_};
 ghost use lib.ListN.{length};
-ghost use Rattle.request.specs.Table.{table, lookup};
-ghost use Rattle.request.specs.Label.{bare, nobody, most, masked, inventory, isOne, targetFits, faulty, known, checked, call, addressed, unaddressed, addressing, decode, heard, dataOf};
+ghost use Rattle.request.specs.Label.{bare, nobody, most, masked, inventory, isOne, targetFits, faulty, byRow, call};
+ghost use Rattle.request.specs.Label.{addressed, unaddressed, addressing, decode, heard, dataOf};
 
 pub enum Target {
     Everyone,
@@ -146,8 +145,8 @@ fn fault(to: Target, row: Row, code: u8) -> Call
 }
 
 // What a frame with parameters ps asks, by its code's row.
-fn known_call(to: Target, option: bool, ps: &[u8], row: Row) -> Call
-    ensures { λ r. ⌜ r ≡ known to option (now (ps .entry)) row ⌝ }
+fn row_call(to: Target, option: bool, ps: &[u8], row: Row) -> Call
+    ensures { λ r. ⌜ r ≡ byRow to option (now (ps .entry)) row ⌝ }
 {
     if !target_fits(row, to) {
         return Call::Nobody;
@@ -177,7 +176,7 @@ fn call_of(to: Target, c: u8, option: bool, ps: &[u8]) -> Call
     let Found::Known(row) = found else {
         return Call::Fault(to, 1);
     };
-    known_call(to, option, ps, row)
+    row_call(to, option, ps, row)
 }
 
 // A frame with Address set.

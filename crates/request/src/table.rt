@@ -1,6 +1,6 @@
 // The label's commands, in one small table: what goes with a code stands in its row.
 ghost use mathlib.Core.Path.{_≡_};
-ghost use Rattle.request.specs.Table.{rowOf, table, lookup, answers, optionFits};
+ghost use Rattle.request.specs.Table.{rowOf, table, lookup, hasAnswer, optionFits};
 
 // What a label is asked beside an Inventory.
 pub enum Task {
@@ -204,7 +204,7 @@ pub fn find(code: u8) -> Found
 
 // Whether a success is said.
 pub fn has_answer(success: Success) -> bool
-    ensures { λ r. ⌜ r ≡ answers success ⌝ }
+    ensures { λ r. ⌜ r ≡ hasAnswer success ⌝ }
 {
     match success {
         Success::Never => false,

@@ -11,7 +11,7 @@ use lib.Seq.{sets, drop-length, drop-drop}
 use Rattle.frame.proofs.Bools.{if-either}
 use Rattle.frame.proofs.Lists.{drop-head}
 use Rattle.frame.proofs.Puts.{one, none, sets-front}
-use Rattle.rack.specs.Event.{eventOf}
+use Rattle.rack.specs.Event.{least, eventOf}
 use Rattle.script.specs.Lines.{padded, drawsFor, eventRack}
 
 length-padded : (k : ℕ) (b : List ℕ) → length (padded k b) ≡ k
@@ -78,7 +78,7 @@ few-inside n m most e = rw e (if-either (λ (k : ℕ). k ≤ most) (ltb most m) 
 
 -- the event takes so many
 pub event-left : (tags₁ tags frame draws : List ℕ) (number n : ℕ) → n ≡ drawsFor (getD tags 1 0) (length draws)
-    → tags₁ ≡ eventOf tags number frame (take (n - 0) draws) (replicate 64 0) .rack → tags₁ ≡ eventRack tags number frame draws
+    → tags₁ ≡ eventOf tags number frame (take (n - 0) draws) (replicate least 0) .rack → tags₁ ≡ eventRack tags number frame draws
 unfolding eventRack
 event-left tags₁ tags frame draws number n e f =
-    f ∙ ap (λ (k : ℕ). eventOf tags number frame (take k draws) (replicate 64 0) .rack) (sub-zero n ∙ e)
+    f ∙ ap (λ (k : ℕ). eventOf tags number frame (take k draws) (replicate least 0) .rack) (sub-zero n ∙ e)

@@ -8,7 +8,7 @@ use lib.Seq.{sets}
 use Rattle.frame.specs.Choose.{if_then_else_}
 use Rattle.frame.specs.Number.{bytesOf}
 use Rattle.frame.specs.CheckSum.{crcOf}
-use Rattle.rack.specs.Event.{eventOf}
+use Rattle.rack.specs.Event.{least, eventOf}
 use Rattle.text.specs.Words.{firstWord, bareText}
 use Rattle.text.specs.Runs.{hexOf}
 use Rattle.text.specs.declared.words.Keyword.{Keyword}
@@ -114,7 +114,7 @@ effectOf line draws bytes = effectBy (firstWord line .word) (firstWord line .res
 
 -- the rack that an event leaves
 unfoldable pub eventRack : List ℕ → ℕ → List ℕ → List ℕ → List ℕ
-eventRack tags number frame draws = eventOf tags number frame (take (drawsFor (getD tags 1 0) (length draws)) draws) (replicate 64 0) .rack
+eventRack tags number frame draws = eventOf tags number frame (take (drawsFor (getD tags 1 0) (length draws)) draws) (replicate least 0) .rack
 
 -- the rack that a line leaves: an event takes the first n bytes for its frame, and what is no event changes nothing
 abbrev pub rackBy : Action → List ℕ → List ℕ → List ℕ → List ℕ

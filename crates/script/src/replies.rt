@@ -1,6 +1,7 @@
 // An event played, and its reply as text.
 use crate::draws::draws_for;
 use crate::lines::Trouble;
+use rack::event::LEAST;
 use rack::event::Report;
 use rack::event::event;
 use text::hex::print_bytes;
@@ -46,7 +47,7 @@ fn print_reply(report: Report, answer: &[u8]) {
 pub fn play_event(tags: &mut [u8], number: u8, frame: &[u8], draws: &[u8])
     ensures { λ r. ⌜ now (tags .exit) ≡ eventRack (now (tags .entry)) number (now (frame .entry)) (now (draws .entry)) ⌝ }
 {
-    let mut answer = [0u8; 64];
+    let mut answer = [0u8; LEAST];
     let n = draws_for(tags, draws.len());
     let report = event(tags, number, frame, &draws[0..n], &mut answer);
     print_reply(report, &answer);

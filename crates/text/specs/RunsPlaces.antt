@@ -1,4 +1,4 @@
--- Scaffolding: for the contracts of private functions alone, which see a run of hex by its places. No public contract rests on it. Assumes nothing.
+-- Not for the reader of the paper: for the contracts of private functions alone, which see a run of hex by its places. Assumes nothing.
 use mathlib.Core.Bool.{Bool, not, _&&_}
 use mathlib.Core.List.{List}
 use Prim.Native.Nat.{ℕ, _-_}

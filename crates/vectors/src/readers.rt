@@ -4,6 +4,7 @@ use crate::racks::play;
 use crate::sums::seal_into;
 use frame::number::byte_at;
 use frame::number::number_at;
+use rack::event::LEAST;
 use reader::answer::read_answer;
 use reader::command::Command;
 use reader::fields::Fields;
@@ -102,7 +103,7 @@ fn event_of(bytes: &[u8]) -> u8 {
 
 // A command's frame is played, and its answer read.
 fn send(bytes: &[u8], frame: &[u8], tags: &mut [u8], draws: &[u8]) {
-    let mut answer = [0u8; 64];
+    let mut answer = [0u8; LEAST];
     let n = draws_for(tags, draws.len());
     let report = play(event_of(bytes), frame, tags, &draws[0..n], &mut answer);
     read_back(bytes, report.answered, &answer, report.length);

@@ -3,7 +3,7 @@ use mathlib.Core.Path.{ap, sym, _∙_}
 use denote.Ref.{now}
 use borrow.Author.Needs.{needs}
 use Rattle.frame.specs.declared.verdict.Verdict.{Verdict}
-use Rattle.rack.proofs.Verdicts.{rack-fine}
+use Rattle.rack.proofs.FileVerdict.{rack-fine}
 use Rattle.show.proofs.show.Statement.{statement}
 use Rattle.show.proofs.show.Tie as tie
 

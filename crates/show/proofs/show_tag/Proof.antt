@@ -1,7 +1,7 @@
 -- Each kind's body is as long as its line needs it. Assumes nothing.
 use native.Mathlib.Omega.{arith}
 use borrow.Author.Needs.{needs}
-use Rattle.rack.proofs.Tags.{kind-label, kind-chip, fits-label, fits-chip}
+use Rattle.rack.proofs.EventTags.{kind-label, kind-chip, fits-label, fits-chip}
 use Rattle.show.proofs.show_tag.Statement.{statement}
 use Rattle.show.proofs.show_tag.Tie as tie
 

@@ -1,6 +1,5 @@
 -- Every tag below the count is there. Assumes nothing.
 use Prim.Native.Nat.{_-_}
-use native.Mathlib.Omega.{arith}
 use borrow.Author.Needs.{needs}
 use denote.Ref.{now}
 use Rattle.show.proofs.Tags.{entry-there, body-there, body-fits}

@@ -20,5 +20,6 @@ say-id-spec =
     (λ c. c .before .before .seal .kept .0 ∙ simp length-set)
     (λ c. let s = c .before .before in
     let a = c .before .before .before .before .before in
-    let l = laid-seal 0xFFFF true {xs = a .args .id ∷ []} {old = now (a .args .out)} (record { long = refl; is = refl }) (omega (arith, a .pre)) (s .seal .ensures) in
+    let old = now (a .args .out) in
+    let l = laid-seal 0xFFFF true {xs = a .args .id ∷ []} {old = old} (record { long = refl; is = refl }) (omega (arith, a .pre)) (s .seal .ensures) in
     (s .seal .ensures .0, l .is)))

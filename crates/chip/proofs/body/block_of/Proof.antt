@@ -2,7 +2,7 @@
 -- Assumes nothing.
 use mathlib.Core.Path.{_∙_}
 use native.Mathlib.Omega.{arith}
-use Rattle.chip.proofs.Shapes.{place-fits}
+use Rattle.chip.proofs.BodyShapes.{place-fits}
 use borrow.Author.Needs.{needs}
 use Rattle.chip.proofs.body.block_of.Statement.{statement}
 use Rattle.chip.proofs.body.block_of.Tie as tie

@@ -3,7 +3,7 @@
 use mathlib.Core.Path.{_∙_}
 use native.Mathlib.Omega.{arith}
 use Rattle.chip.specs.Body.{worked}
-use Rattle.chip.proofs.Shapes.{place-fits}
+use Rattle.chip.proofs.BodyShapes.{place-fits}
 use borrow.Author.Needs.{needs}
 use Rattle.chip.proofs.body.do_work.Statement.{statement}
 use Rattle.chip.proofs.body.do_work.Tie as tie
@@ -18,6 +18,10 @@ do-work-spec =
     (λ c. rw (c .enum-told .given .1))
     (λ c κs. search needs)
     (λ c. search needs)
-    (λ c κs. omega (arith, c .before .place .ensures, place-fits (c .before .before .before .work .given .0 .0), c .before .before .before .before .before .before .pre))
+    (λ c κs.
+    let k = c .before .before .before in
+    omega (arith, c .before .place .ensures, place-fits (k .work .given .0 .0), k .before .before .before .pre))
     (λ c. search needs)
-    (λ c. c .before .before .put-number .ensures .1 ∙ rw (c .before .before .before .before .place .ensures, c .before .before .before .before .before .before .work .given .1)))
+    (λ c.
+    let p = c .before .before .before .before in
+    c .before .before .put-number .ensures .1 ∙ rw (p .place .ensures, p .before .before .work .given .1)))

@@ -25,9 +25,37 @@ judge-chip-spec =
     (λ c. c .offence2 .ensures ∙ rw (le-ltb _ _ (c .before .before .before .if1 .left), sym (c .before .before .wrong-id .ensures) ∙ c .before .if2 .taken))
     (λ c κs. search needs)
     (λ c κs. search needs)
-    (λ c. c .offence3 .ensures ∙ rw (le-ltb _ _ (c .before .before .before .before .before .if1 .left), sym (c .before .before .before .before .wrong-id .ensures) ∙ c .before .before .before .if2 .left, sym (c .before .before .wrong-reload .ensures) ∙ c .before .if3 .taken))
+    (λ c.
+    let r = c .before .before in
+    let i = r .before .before in
+    c .offence3 .ensures
+    ∙ rw (
+      le-ltb _ _ (i .before .if1 .left),
+      sym (i .wrong-id .ensures) ∙ r .before .if2 .left,
+      sym (r .wrong-reload .ensures) ∙ c .before .if3 .taken,
+    ))
     (λ c κs. search needs)
     (λ c κs. search needs)
-    (λ c. c .offence4 .ensures ∙ rw (le-ltb _ _ (c .before .before .before .before .before .before .before .if1 .left), sym (c .before .before .before .before .before .before .wrong-id .ensures) ∙ c .before .before .before .before .before .if2 .left, sym (c .before .before .before .before .wrong-reload .ensures) ∙ c .before .before .before .if3 .left, sym (c .before .before .wrong-fixed .ensures) ∙ c .before .if4 .taken))
+    (λ c.
+    let f = c .before .before in
+    let r = f .before .before in
+    let i = r .before .before in
+    c .offence4 .ensures
+    ∙ rw (
+      le-ltb _ _ (i .before .if1 .left),
+      sym (i .wrong-id .ensures) ∙ r .before .if2 .left,
+      sym (r .wrong-reload .ensures) ∙ f .before .if3 .left,
+      sym (f .wrong-fixed .ensures) ∙ c .before .if4 .taken,
+    ))
     (λ c κs. search needs)
-    (λ c. c .good2 .ensures ∙ rw (le-ltb _ _ (c .before .before .before .before .before .before .before .if1 .left), sym (c .before .before .before .before .before .before .wrong-id .ensures) ∙ c .before .before .before .before .before .if2 .left, sym (c .before .before .before .before .wrong-reload .ensures) ∙ c .before .before .before .if3 .left, sym (c .before .before .wrong-fixed .ensures) ∙ c .before .if4 .left)))
+    (λ c.
+    let f = c .before .before in
+    let r = f .before .before in
+    let i = r .before .before in
+    c .good2 .ensures
+    ∙ rw (
+      le-ltb _ _ (i .before .if1 .left),
+      sym (i .wrong-id .ensures) ∙ r .before .if2 .left,
+      sym (r .wrong-reload .ensures) ∙ f .before .if3 .left,
+      sym (f .wrong-fixed .ensures) ∙ c .before .if4 .left,
+    )))

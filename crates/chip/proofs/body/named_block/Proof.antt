@@ -3,7 +3,7 @@
 use mathlib.Core.Path.{_∙_}
 use denote.Ref.{now}
 use Rattle.chip.specs.Body.{named}
-use Rattle.chip.proofs.Shapes.{unnamed}
+use Rattle.chip.proofs.BodyShapes.{unnamed}
 use borrow.Author.Needs.{needs}
 use Rattle.chip.proofs.body.named_block.Statement.{statement}
 use Rattle.chip.proofs.body.named_block.Tie as tie

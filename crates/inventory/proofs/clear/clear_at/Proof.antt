@@ -3,7 +3,7 @@ use mathlib.Core.Path.{refl}
 use native.Mathlib.Nat.{add-sub-cancel-left}
 use borrow.Author.Needs.{needs}
 use Rattle.frame.proofs.Stores.{length-part}
-use Rattle.rack.proofs.Places.{span-part}
+use Rattle.rack.proofs.FilePlaces.{span-part}
 use Rattle.inventory.proofs.clear.clear_at.Statement.{statement}
 use Rattle.inventory.proofs.clear.clear_at.Tie as tie
 

@@ -3,8 +3,8 @@ use Prim.Native.Nat.{_+_, _-_, _≤_, _<_}
 use native.Mathlib.Omega.{arith}
 use lib.ListN.{length}
 use Rattle.rack.specs.File.{countOf, entryAt}
-use Rattle.inventory.proofs.Events.{Fine}
-use Rattle.inventory.proofs.Clears.{Clearing, clearing-none, clearing-room, clearing-asks, clearing-small, clearing-more, clearing-done}
+use Rattle.inventory.proofs.WalkEvents.{Fine}
+use Rattle.inventory.proofs.WalkClears.{Clearing, clearing-none, clearing-room, clearing-asks, clearing-small, clearing-more, clearing-done}
 use Rattle.inventory.proofs.clear.clear_rack.Statement.{statement}
 use Rattle.inventory.proofs.clear.clear_rack.Tie as tie
 

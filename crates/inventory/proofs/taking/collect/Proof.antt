@@ -3,8 +3,8 @@ use Prim.Native.Nat.{_+_, _-_, _≤_, _<_}
 use native.Mathlib.Omega.{arith}
 use lib.ListN.{length}
 use Rattle.rack.specs.File.{kindOf, countOf, entryAt}
-use Rattle.inventory.proofs.Gathered.{Met, met-room, met-inside, met-fits, met-small}
-use Rattle.inventory.proofs.Gathered.{Gathering, gathering-none, gathering-few, gathering-more, gathering-done}
+use Rattle.inventory.proofs.NumbersGathered.{Met, met-room, met-inside, met-fits, met-small}
+use Rattle.inventory.proofs.NumbersGathered.{Gathering, gathering-none, gathering-few, gathering-more, gathering-done}
 use Rattle.inventory.proofs.taking.collect.Statement.{statement}
 use Rattle.inventory.proofs.taking.collect.Tie as tie
 

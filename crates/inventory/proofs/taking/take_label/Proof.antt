@@ -1,7 +1,7 @@
 -- A label that takes part has one UID; any other has none.
 use borrow.Author.Needs.{needs}
 use borrow.Author.Tests.{not-true, not-false}
-use Rattle.inventory.proofs.Gathered.{take-none, take-some}
+use Rattle.inventory.proofs.NumbersGathered.{take-none, take-some}
 use Rattle.inventory.proofs.taking.take_label.Statement.{statement}
 use Rattle.inventory.proofs.taking.take_label.Tie as tie
 

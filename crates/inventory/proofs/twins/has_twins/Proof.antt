@@ -1,7 +1,7 @@
 -- At the loop's head none of the first i is one of those behind it.
 use Prim.Native.Nat.{_-_}
 use native.Mathlib.Omega.{arith}
-use Rattle.inventory.proofs.Repeated.{Comparing, comparing-none, comparing-found, comparing-more, comparing-done}
+use Rattle.inventory.proofs.NumbersRepeated.{Comparing, comparing-none, comparing-found, comparing-more, comparing-done}
 use Rattle.inventory.proofs.twins.has_twins.Statement.{statement}
 use Rattle.inventory.proofs.twins.has_twins.Tie as tie
 

@@ -2,7 +2,7 @@
 use Prim.Native.Nat.{_-_}
 use native.Mathlib.Omega.{arith}
 use lib.ListN.{length}
-use Rattle.inventory.proofs.Repeated.{Seeking, seeking-none, seeking-found, seeking-more, seeking-done}
+use Rattle.inventory.proofs.NumbersRepeated.{Seeking, seeking-none, seeking-found, seeking-more, seeking-done}
 use Rattle.inventory.proofs.twins.is_among.Statement.{statement}
 use Rattle.inventory.proofs.twins.is_among.Tie as tie
 

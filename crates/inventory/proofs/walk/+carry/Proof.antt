@@ -4,9 +4,10 @@ use mathlib.Core.Path.{refl, sym, _∙_}
 use native.Mathlib.Nat.{add-sub-cancel-left}
 use native.Mathlib.Omega.{arith}
 use lib.ListN.{length}
-use Rattle.inventory.proofs.Listed.{lent-some}
-use Rattle.inventory.proofs.Branches.{RoundOver, round-over, answers, singles-room, Carried, carried-none, last-round}
-use Rattle.inventory.proofs.Branches.{carried-same, carried-done, carried-some, carried-inside, carried-asks, carried-few, carried-hit, carried-miss}
+use Rattle.inventory.proofs.NumbersListed.{lent-some}
+use Rattle.inventory.proofs.NumbersBranches.{RoundOver, round-over, answers, singles-room, Carried, carried-none, last-round}
+use Rattle.inventory.proofs.NumbersBranches.{carried-same, carried-done, carried-some, carried-inside, carried-asks, carried-few, carried-hit}
+use Rattle.inventory.proofs.NumbersBranches.{carried-miss}
 use Prim.Native.Nat.{ℕ, _+_, _-_, _≤_, _<_}
 use borrow.Fn.Kinds.{In}
 use borrow.Rule.Slice.PartMut.{same-len-mid, mid-len, drop-put}
@@ -80,7 +81,8 @@ carry-returns : (t : ℕ) → carry-lts.Need-returns (calls t) (carry-at t) carr
 carry-returns t c =
     let p = c .before .before .before .before .before in
     let s = start p in
-    answers (s .args .bits) (s .args .us .now) (p .play-round .ensures .0) (s .args .list .now) (s .args .cursor) (s .pre .1) (last-round (over p) (c .if1 .taken))
+    answers (s .args .bits) (s .args .us .now) (p .play-round .ensures .0) (s .args .list .now) (s .args .cursor) (s .pre .1)
+    (last-round (over p) (c .if1 .taken))
 
 carry-loop-holds : (t : ℕ) → carry-lts.Need-loop-holds (calls t) (carry-at t) carry.Post carry-Inv-loop carry-μ-loop
 carry-loop-holds t c = carried-none (over (c .before .before .before .before .before))

@@ -1,7 +1,7 @@
 -- The rules in their order: file, room, twins, and then the family's UIDs.
 use native.Mathlib.Omega.{arith}
 use borrow.Author.Needs.{needs}
-use Rattle.inventory.proofs.Calls.{begins-bad, begins-fine, begins-short, begins-twins, begins-ready}
+use Rattle.inventory.proofs.WalkCalls.{begins-bad, begins-fine, begins-short, begins-twins, begins-ready}
 use Rattle.inventory.proofs.walk.begin.Statement.{statement}
 use Rattle.inventory.proofs.walk.begin.Tie as tie
 

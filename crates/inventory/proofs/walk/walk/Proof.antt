@@ -1,6 +1,6 @@
 -- Refused, nothing changes; otherwise the rack is cleared, the UIDs are carried through from no mask on, and the reply is demand 3.
 use borrow.Author.Needs.{needs}
-use Rattle.inventory.proofs.Calls.{call-refused, call-fine, call-asks, call-walked}
+use Rattle.inventory.proofs.WalkCalls.{call-refused, call-fine, call-asks, call-walked}
 use Rattle.inventory.proofs.walk.walk.Statement.{statement}
 use Rattle.inventory.proofs.walk.walk.Tie as tie
 

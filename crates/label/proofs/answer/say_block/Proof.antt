@@ -2,18 +2,18 @@
 -- Assumes nothing.
 use mathlib.Core.Path.{refl, ap, _∙_}
 use mathlib.Core.List.{[], _∷_}
-use Prim.Native.Nat.{_+_, _≤_}
+use Prim.Native.Nat.{_≤_}
 use native.Mathlib.Omega.{arith}
 use denote.Ref.{now}
-use lib.ListN.{length, getD, length-set}
+use lib.ListN.{length, length-set}
 use lib.Seq.{sets}
 use borrow.Author.Needs.{needs}
 use Rattle.frame.specs.Number.{part}
 use Rattle.frame.proofs.Stores.{length-part}
 use Rattle.frame.proofs.Puts.{laid-part}
 use Rattle.label.specs.Body.{sizeOf}
-use Rattle.label.proofs.Room.{sized-long}
-use Rattle.label.proofs.Laying.{block-locked, block-plain, block-inside, block-least, locked-length, plain-length}
+use Rattle.label.proofs.BodyRoom.{sized-long}
+use Rattle.label.proofs.AnswerLaid.{block-locked, block-plain, block-inside, block-least, locked-length, plain-length}
 use Rattle.label.proofs.answer.say_block.Statement.{statement}
 use Rattle.label.proofs.answer.say_block.Tie as tie
 
@@ -25,24 +25,30 @@ least c =
 seal-part-requires : tie.Need-seal-part-requires
 seal-part-requires c κs =
     let s = c .before .before .before .before .before .before .before in
-    (block-inside _ _ _ (c .before .before .before .place .ensures) (s .pre .0 .0) (s .pre .0 .1), simp length-set (omega (arith, locked-length _ _ (s .pre .0 .0) (s .pre .0 .1) _ (c .before .before .if1 .taken), s .pre .1)))
+    let l = locked-length _ _ (s .pre .0 .0) (s .pre .0 .1) _ (c .before .before .if1 .taken) in
+    (block-inside _ _ _ (c .before .before .before .place .ensures) (s .pre .0 .0) (s .pre .0 .1), simp length-set (omega (arith, l, s .pre .1)))
 
 returns : tie.Need-returns
 returns c =
     let s = c .before .before .before .before .before .before .before .before .before .before in
     let b = now (s .args .b) in
     let old = now (s .args .out) in
-    let at = c .before .before .before .before .before .before .place .result in
-    let p = c .before .before .before .before .before .before .place .ensures in
+    let k = c .before .before .before .before in
+    let at = k .before .before .place .result in
+    let p = k .before .before .place .ensures in
     let w = block-inside b (s .args .n) at p (s .pre .0 .0) (s .pre .0 .1) in
-    let l = laid-part {xs = 0 ∷ c .before .before .before .before .lock-on .result ∷ []} {old = old} (part at (sizeOf b) b) (record { long = refl; is = refl }) (omega (arith, block-least b (s .args .n) (s .args .lock), s .pre .1)) (length-part at (sizeOf b) b w) (c .before .before .seal-part .ensures) in
-    let e = block-locked b (s .args .n) at p (s .args .lock) (c .before .before .before .before .lock-on .ensures) (c .before .before .before .before .before .if1 .taken) in
+    let l =
+    laid-part {xs = 0 ∷ k .lock-on .result ∷ []} {old = old} (part at (sizeOf b) b) (record { long = refl; is = refl })
+    (omega (arith, block-least b (s .args .n) (s .args .lock), s .pre .1)) (length-part at (sizeOf b) b w) (c .before .before .seal-part .ensures)
+    in
+    let e = block-locked b (s .args .n) at p (s .args .lock) (k .lock-on .ensures) (k .before .if1 .taken) in
     (l .long ∙ ap length e, l .is ∙ ap (sets old 0) e)
 
 seal-part-requires-2 : tie.Need-seal-part-requires-2
 seal-part-requires-2 c κs =
     let s = c .before .before .before .before .before .before in
-    (block-inside _ _ _ (c .before .before .place .ensures) (s .pre .0 .0) (s .pre .0 .1), simp length-set (omega (arith, plain-length _ _ (s .pre .0 .0) (s .pre .0 .1) _ (c .before .if1 .left), s .pre .1)))
+    let l = plain-length _ _ (s .pre .0 .0) (s .pre .0 .1) _ (c .before .if1 .left) in
+    (block-inside _ _ _ (c .before .before .place .ensures) (s .pre .0 .0) (s .pre .0 .1), simp length-set (omega (arith, l, s .pre .1)))
 
 returns-2 : tie.Need-returns-2
 returns-2 c =
@@ -52,7 +58,10 @@ returns-2 c =
     let at = c .before .before .before .before .before .place .result in
     let p = c .before .before .before .before .before .place .ensures in
     let w = block-inside b (s .args .n) at p (s .pre .0 .0) (s .pre .0 .1) in
-    let l = laid-part {xs = 0 ∷ []} {old = old} (part at (sizeOf b) b) (record { long = refl; is = refl }) (omega (arith, block-least b (s .args .n) (s .args .lock), s .pre .1)) (length-part at (sizeOf b) b w) (c .before .before .seal-part2 .ensures) in
+    let l =
+    laid-part {xs = 0 ∷ []} {old = old} (part at (sizeOf b) b) (record { long = refl; is = refl })
+    (omega (arith, block-least b (s .args .n) (s .args .lock), s .pre .1)) (length-part at (sizeOf b) b w) (c .before .before .seal-part2 .ensures)
+    in
     let e = block-plain b (s .args .n) at p (s .args .lock) (c .before .before .before .before .if1 .left) in
     (l .long ∙ ap length e, l .is ∙ ap (sets old 0) e)
 

@@ -19,7 +19,8 @@ returns c =
     let s = c .before .before .before .before .before .before .before in
     let b = now (s .args .b) in
     let e = c .before .before .seal-part .ensures in
-    let l = laid-part {xs = 0 ∷ getD b 8 0 ∷ []} {old = now (s .args .out)} (part 0 8 b) (record { long = refl; is = refl }) (omega (arith, s .pre)) (length-take-le 8 b (omega (arith, s .pre))) e in
+    let h = length-take-le 8 b (omega (arith, s .pre)) in
+    let l = laid-part {xs = 0 ∷ getD b 8 0 ∷ []} {old = now (s .args .out)} (part 0 8 b) (record { long = refl; is = refl }) (omega (arith, s .pre)) h e in
     (e .0, l .is)
 
 pub say-found-spec : {M : Type 1} → statement M

@@ -23,7 +23,9 @@ returns c =
     let e = c .before .before .before .before .before .before .put-bytes .ensures in
     let f = c .before .before .seal-part .ensures in
     let h = length-take-le 10 b (omega (arith, s .pre)) in
-    let k : Laid (0 ∷ 0x0F ∷ take 10 b) _ old _ = laid-bytes {xs = 0 ∷ 0x0F ∷ []} {old = old} 10 b (omega (arith, s .pre)) (record { long = refl; is = refl }) e in
+    let k : Laid (0 ∷ 0x0F ∷ take 10 b) _ old _ =
+    laid-bytes {xs = 0 ∷ 0x0F ∷ []} {old = old} 10 b (omega (arith, s .pre)) (record { long = refl; is = refl }) e
+    in
     let l = laid-part {old = old} (part 11 3 b) k (omega (arith, s .pre)) (length-part 11 3 b (omega (arith, s .pre))) f in
     (omega (arith, e .0, f .0), l .is)
 
@@ -35,6 +37,6 @@ say-info-spec =
     (λ c. search needs)
     (λ c. simp length-set (omega arith))
     (λ c κs. (simp length-set (omega arith), search needs))
-    (λ c κs. (search needs, omega (arith, simp length-set at (c .before .before .before .put-bytes .kept .0), c .before .before .before .put-bytes .ensures .0)))
+    (λ c κs. let p = c .before .before .before .put-bytes in (search needs, omega (arith, simp length-set at (p .kept .0), p .ensures .0)))
     (λ c. c .before .before .seal-part .kept .0 ∙ c .before .before .before .before .before .before .put-bytes .kept .0 ∙ simp length-set)
     returns)

@@ -11,8 +11,8 @@ use lib.ListN.{length, length-set}
 use Rattle.label.specs.Answer.{answerFrame}
 use Rattle.label.specs.Facts.{AnswerFits}
 use Rattle.frame.proofs.Puts.{laid-seal}
-use Rattle.label.proofs.Room.{sized-long}
-use Rattle.label.proofs.Laying.{found-length, info-length, error-room, done-room, found-room, info-room}
+use Rattle.label.proofs.BodyRoom.{sized-long}
+use Rattle.label.proofs.AnswerLaid.{found-length, info-length, error-room, done-room, found-room, info-room}
 use Rattle.label.proofs.answer.write_answer.Statement.{statement}
 use Rattle.label.proofs.answer.write_answer.Tie as tie
 
@@ -34,30 +34,37 @@ unfolding answerFrame AnswerFits
 returns-2 c =
     let s = c .before .before .before .before .before .before .before .before .before in
     let old = now (s .args .out) in
-    let l = laid-seal 0xFFFF true {xs = 1 ∷ c .before .before .before .before .before .a .given .0 .0 ∷ []} {old = old} (record { long = refl; is = refl }) (omega (arith, error (c .before .before .before .before))) (c .before .before .seal .ensures) in
-    rw (c .before .before .before .before .before .a .given .1) (l .long, l .is)
+    let k = c .before .before .before .before in
+    let e = k .before .a .given in
+    let l =
+    laid-seal 0xFFFF true {xs = 1 ∷ e .0 .0 ∷ []} {old = old} (record { long = refl; is = refl }) (omega (arith, error k)) (c .before .before .seal .ensures)
+    in
+    rw (e .1) (l .long, l .is)
 
 returns-3 : tie.Need-returns-3
 unfolding answerFrame AnswerFits
 returns-3 c =
     let s = c .before .before .before .before .before .before .before .before in
     let old = now (s .args .out) in
-    let l = laid-seal 0xFFFF true {xs = 0 ∷ []} {old = old} (record { long = refl; is = refl }) (omega (arith, done (c .before .before .before .before))) (c .before .before .seal2 .ensures) in
-    rw (c .before .before .before .before .enum-told2 .given .1) (l .long, l .is)
+    let k = c .before .before .before .before in
+    let l = laid-seal 0xFFFF true {xs = 0 ∷ []} {old = old} (record { long = refl; is = refl }) (omega (arith, done k)) (c .before .before .seal2 .ensures) in
+    rw (k .enum-told2 .given .1) (l .long, l .is)
 
 returns-4 : tie.Need-returns-4
 unfolding answerFrame AnswerFits
 returns-4 c =
     let s = c .before .before .before .before .before .before .before .before in
     let h = sized-long (now (s .args .b)) (s .pre .0 .0) in
-    rw (c .before .before .before .before .enum-told3 .given .1) (c .before .before .say-found .ensures .0 ∙ sym (found-length (now (s .args .b)) (omega (arith, h))), c .before .before .say-found .ensures .1)
+    let k = c .before .before in
+    rw (k .before .before .enum-told3 .given .1) (k .say-found .ensures .0 ∙ sym (found-length (now (s .args .b)) (omega (arith, h))), k .say-found .ensures .1)
 
 returns-6 : tie.Need-returns-6
 unfolding answerFrame AnswerFits
 returns-6 c =
     let s = c .before .before .before .before .before .before .before .before in
     let h = sized-long (now (s .args .b)) (s .pre .0 .0) in
-    rw (c .before .before .before .before .enum-told4 .given .1) (c .before .before .say-info .ensures .0 ∙ sym (info-length (now (s .args .b)) (omega (arith, h))), c .before .before .say-info .ensures .1)
+    let k = c .before .before in
+    rw (k .before .before .enum-told4 .given .1) (k .say-info .ensures .0 ∙ sym (info-length (now (s .args .b)) (omega (arith, h))), k .say-info .ensures .1)
 
 pub write-answer-spec : {M : Type 1} → statement M
 unfolding answerFrame AnswerFits

@@ -21,4 +21,6 @@ load-spec =
     (λ c. search needs)
     (λ c. search needs)
     (λ c. search needs)
-    (λ c. rw (c .before .before .before .before .before .before .before .before .before .before .uid-at .ensures, c .before .before .before .before .before .before .before .before .before .number-at .ensures)))
+    (λ c.
+    let k = c .before .before .before .before .before .before .before .before .before in
+    rw (k .before .uid-at .ensures, k .number-at .ensures)))

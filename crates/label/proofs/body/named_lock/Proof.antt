@@ -4,7 +4,7 @@ use mathlib.Core.Path.{_∙_}
 use denote.Ref.{now}
 use borrow.Author.Needs.{needs}
 use Rattle.label.specs.Body.{named}
-use Rattle.label.proofs.Others.{named-none}
+use Rattle.label.proofs.StepOthers.{named-none}
 use Rattle.label.proofs.body.named_lock.Statement.{statement}
 use Rattle.label.proofs.body.named_lock.Tie as tie
 

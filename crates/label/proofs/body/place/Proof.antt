@@ -1,13 +1,19 @@
 -- Sums and one product of bytes, which is small.
 -- Assumes nothing.
+use Prim.Native.Nat.{_+_, _*_, _≤_}
 use native.Mathlib.Omega.{arith}
 use denote.Ref.{now}
 use lib.ListN.{getD}
 use borrow.Author.Needs.{needs}
 use Rattle.label.specs.Body.{blockAt}
-use Rattle.label.proofs.Room.{place-small}
+use Rattle.label.proofs.BodyRoom.{place-small}
 use Rattle.label.proofs.body.place.Statement.{statement}
 use Rattle.label.proofs.body.place.Tie as tie
+
+small : (c : tie.After-shared-slice-known2) → c .before .before .before .args .n * (getD (c .before .before .before .args .b .now) 12 0 + 1) ≤ 65280
+small c =
+    let a = c .before .before .before .args in
+    place-small (a .n) (getD (a .b .now) 12 0) (omega arith) (omega (arith, c .shared-slice-known2 .given 12))
 
 pub place-spec : {M : Type 1} → statement M
 unfolding blockAt
@@ -19,6 +25,6 @@ place-spec =
     (λ c. omega (arith, c .shared-slice-known2 .given 12))
     (λ c. omega (arith, c .shared-slice-known2 .given 12))
     (λ c. search needs)
-    (λ c. omega (arith, place-small (c .before .before .before .args .n) (getD (c .before .before .before .args .b .now) 12 0) (omega arith) (omega (arith, c .shared-slice-known2 .given 12))))
-    (λ c. omega (arith, c .before .lock-room .ensures, place-small (c .before .before .before .args .n) (getD (c .before .before .before .args .b .now) 12 0) (omega arith) (omega (arith, c .shared-slice-known2 .given 12))))
+    (λ c. omega (arith, small c))
+    (λ c. omega (arith, c .before .lock-room .ensures, small c))
     (λ c. rw (c .before .lock-room .ensures .0)))

@@ -6,9 +6,9 @@ use lib.ListN.{length}
 use borrow.Author.Needs.{needs}
 use Rattle.label.specs.declared.step.Stepped.{Stepped}
 use Rattle.label.specs.Body.{storeOf, worked, saidLabel, nextLabel}
-use Rattle.label.proofs.Room.{sized-long}
-use Rattle.label.proofs.Stored.{stored-sized}
-use Rattle.label.proofs.Fitting.{step-fits}
+use Rattle.label.proofs.BodyRoom.{sized-long}
+use Rattle.label.proofs.BodyStored.{stored-sized}
+use Rattle.label.proofs.StepFits.{step-fits}
 use Rattle.label.proofs.body.step.Statement.{statement}
 use Rattle.label.proofs.body.step.Tie as tie
 
@@ -24,11 +24,13 @@ do-work-requires c κs =
 returns : tie.Need-returns
 unfolding saidLabel nextLabel
 returns c =
-    let a = c .before .before .before .before .before .before .before .before .before .before .before .before .before .args in
-    let e = c .before .before .before .before .before .before .before .before .before .act-on .ensures in (
+    let t = c .before .before .before .before .before .before in
+    let k = t .before .before .before in
+    let a = k .before .before .before .before .args in
+    let e = k .act-on .ensures in (
       ap (λ (x : Stepped). x .answer) e,
       c .before .before .do-work .ensures
-          ∙ rw (c .before .before .before .before .before .before .store .ensures) (ap (λ (x : Stepped). worked (x .work) (now (a .«data»)) (storeOf (now (a .b)) (x .next))) e),
+          ∙ rw (t .store .ensures) (ap (λ (x : Stepped). worked (x .work) (now (a .«data»)) (storeOf (now (a .b)) (x .next))) e),
     )
 
 pub step-spec : {M : Type 1} → statement M

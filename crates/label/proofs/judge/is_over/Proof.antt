@@ -5,7 +5,7 @@ use Prim.Native.Nat.{_+_}
 use native.Mathlib.Omega.{arith}
 use denote.Ref.{now}
 use borrow.Author.Needs.{needs}
-use Rattle.label.proofs.Judging.{over-none, over-all, over-part}
+use Rattle.label.proofs.BodyJudged.{over-none, over-all, over-part}
 use Rattle.label.proofs.judge.is_over.Statement.{statement}
 use Rattle.label.proofs.judge.is_over.Tie as tie
 

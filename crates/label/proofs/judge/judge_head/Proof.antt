@@ -5,7 +5,7 @@ use denote.Ref.{now}
 use borrow.Author.Needs.{needs}
 use Rattle.frame.proofs.Tests.{tests}
 use Rattle.label.specs.Body.{headRules}
-use Rattle.label.proofs.Judging.{head-misfit, head-size, head-state, head-fine}
+use Rattle.label.proofs.BodyJudged.{head-misfit, head-size, head-state, head-fine}
 use Rattle.label.proofs.judge.judge_head.Statement.{statement}
 use Rattle.label.proofs.judge.judge_head.Tie as tie
 
@@ -16,7 +16,8 @@ returns c = search tests
 returns-2 : tie.Need-returns-2
 returns-2 c =
     let w = c .before .before in
-    c .offence2 .ensures ∙ sym (head-misfit (now (w .before .before .before .before .args .b)) (w .wanted .ensures) (w .before .if1 .left) (c .before .if2 .taken))
+    c .offence2 .ensures
+    ∙ sym (head-misfit (now (w .before .before .before .before .args .b)) (w .wanted .ensures) (w .before .if1 .left) (c .before .if2 .taken))
 
 returns-3 : tie.Need-returns-3
 returns-3 c =

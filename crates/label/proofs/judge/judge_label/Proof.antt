@@ -1,11 +1,10 @@
 -- The first rule that is not kept decides; a body whose head is fine has its locks.
 -- Assumes nothing.
 use mathlib.Core.Path.{sym, ap, _∙_}
-use native.Mathlib.Omega.{arith}
 use denote.Ref.{now}
 use borrow.Author.Needs.{needs}
 use Rattle.frame.specs.declared.verdict.Verdict.{Verdict}
-use Rattle.label.proofs.Judging.{head-long, at-head, at-slot, at-mask, at-zeros, at-locks}
+use Rattle.label.proofs.BodyJudged.{head-long, at-head, at-slot, at-mask, at-zeros, at-locks}
 use Rattle.label.proofs.judge.judge_label.Statement.{statement}
 use Rattle.label.proofs.judge.judge_label.Tie as tie
 

@@ -8,7 +8,7 @@ use borrow.Author.Needs.{needs}
 use Rattle.frame.specs.Judge.{firstOf, fine}
 use Rattle.frame.proofs.Judge.{first-none}
 use Rattle.label.specs.Body.{maskVerdict}
-use Rattle.label.proofs.Judging.{mask-bad, mask-fine}
+use Rattle.label.proofs.BodyJudged.{mask-bad, mask-fine}
 use Rattle.label.proofs.judge.judge_mask.Statement.{statement}
 use Rattle.label.proofs.judge.judge_mask.Tie as tie
 

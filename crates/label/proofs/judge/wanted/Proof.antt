@@ -4,7 +4,7 @@ use native.Mathlib.Omega.{arith}
 use denote.Ref.{now}
 use lib.ListN.{getD}
 use borrow.Author.Needs.{needs}
-use Rattle.label.proofs.Judging.{wanted-le}
+use Rattle.label.proofs.BodyJudged.{wanted-le}
 use Rattle.label.proofs.judge.wanted.Statement.{statement}
 use Rattle.label.proofs.judge.wanted.Tie as tie
 

@@ -5,7 +5,7 @@ use denote.Ref.{now}
 use borrow.Author.Needs.{needs}
 use lib.ListN.{length}
 use Rattle.rack.specs.Event.{carrying, aired, refusalOf}
-use Rattle.rack.proofs.Outcomes.{Playable, playable, event-is, shows-refused, shows-silent, tellable, fits-told, shows-alone}
+use Rattle.rack.proofs.EventOutcomes.{Playable, playable, event-is, shows-refused, shows-silent, tellable, fits-told, shows-alone}
 use Rattle.rack.proofs.event.event.Statement.{statement}
 use Rattle.rack.proofs.event.event.Tie as tie
 

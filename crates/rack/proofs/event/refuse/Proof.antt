@@ -3,8 +3,8 @@
 use mathlib.Core.Path.{sym, _∙_, ap}
 use borrow.Author.Needs.{needs}
 use Rattle.frame.specs.declared.verdict.Verdict.{Verdict}
-use Rattle.rack.proofs.Verdicts.{rack-fine}
-use Rattle.rack.proofs.Outcomes.{gives-1, gives-2, gives-3, gives-4-low, gives-4-high, gives-0}
+use Rattle.rack.proofs.FileVerdict.{rack-fine}
+use Rattle.rack.proofs.EventOutcomes.{gives-1, gives-2, gives-3, gives-4-low, gives-4-high, gives-0}
 use Rattle.rack.proofs.event.refuse.Statement.{statement}
 use Rattle.rack.proofs.event.refuse.Tie as tie
 

@@ -4,7 +4,7 @@ use mathlib.Core.Path.{refl, sym, subst}
 use native.Mathlib.Nat.{add-sub-cancel-left}
 use denote.Ref.{now}
 use borrow.Author.Needs.{needs}
-use Rattle.rack.proofs.Places.{span-part}
+use Rattle.rack.proofs.FilePlaces.{span-part}
 use Rattle.rack.specs.File.{kindOf}
 use Rattle.rack.specs.Facts.{TagFine}
 use Rattle.rack.proofs.event.step_at.Statement.{statement}

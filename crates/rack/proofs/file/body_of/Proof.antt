@@ -5,7 +5,7 @@ use Prim.Native.Nat.{ℕ}
 use denote.Ref.{now}
 use borrow.Author.Needs.{needs}
 use Rattle.frame.specs.Number.{part}
-use Rattle.rack.proofs.Places.{span-part}
+use Rattle.rack.proofs.FilePlaces.{span-part}
 use Rattle.rack.proofs.file.body_of.Statement.{statement}
 use Rattle.rack.proofs.file.body_of.Tie as tie
 

@@ -8,7 +8,7 @@ use borrow.Author.Needs.{needs}
 use Rattle.frame.specs.Judge.{firstOf}
 use Rattle.frame.specs.declared.verdict.Verdict.{Verdict}
 use Rattle.rack.specs.File.{countOf, headVerdict, entryVerdict}
-use Rattle.rack.proofs.Verdicts.{head-fine, entries-fine, by-head, by-entries, by-bodies, by-end}
+use Rattle.rack.proofs.FileVerdict.{head-fine, entries-fine, by-head, by-entries, by-bodies, by-end}
 use Rattle.rack.proofs.file.judge.Statement.{statement}
 use Rattle.rack.proofs.file.judge.Tie as tie
 

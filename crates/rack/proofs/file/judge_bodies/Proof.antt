@@ -5,7 +5,7 @@ use Prim.Native.Nat.{_-_}
 use native.Mathlib.Omega.{arith}
 use borrow.Author.Needs.{needs}
 use Rattle.rack.specs.File.{bodyVerdict}
-use Rattle.rack.proofs.Judging.{judges-bodies, Judging, judging-none, judging-done, turn-few, turn-bad, turn-room, turn-more}
+use Rattle.rack.proofs.FileJudged.{judges-bodies, Judging, judging-none, judging-done, turn-few, turn-bad, turn-room, turn-more}
 use Rattle.rack.proofs.file.judge_bodies.Statement.{statement}
 use Rattle.rack.proofs.file.judge_bodies.Tie as tie
 

@@ -4,7 +4,7 @@ use mathlib.Core.Path.{_∙_}
 use denote.Ref.{now}
 use borrow.Author.Needs.{needs}
 use Rattle.rack.specs.File.{kindOf}
-use Rattle.rack.proofs.Judging.{BodyRead, judged-short, judged-fits, judged-fine, judged-bad}
+use Rattle.rack.proofs.FileJudged.{BodyRead, judged-short, judged-fits, judged-fine, judged-bad}
 use Rattle.rack.proofs.file.judge_body.Statement.{statement}
 use Rattle.rack.proofs.file.judge_body.Tie as tie
 

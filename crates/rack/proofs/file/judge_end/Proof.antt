@@ -7,8 +7,8 @@ use denote.Ref.{now}
 use borrow.Author.Needs.{needs}
 use Rattle.rack.specs.File.{startOf, countOf}
 use Rattle.rack.specs.Facts.{EntryFine}
-use Rattle.rack.proofs.Verdicts.{end-good}
-use Rattle.rack.proofs.Judging.{last-end, start-fits, empty-end, end-bad}
+use Rattle.rack.proofs.FileVerdict.{end-good}
+use Rattle.rack.proofs.FileJudged.{last-end, start-fits, empty-end, end-bad}
 use Rattle.rack.proofs.file.judge_end.Statement.{statement}
 use Rattle.rack.proofs.file.judge_end.Tie as tie
 

@@ -5,7 +5,7 @@ use Prim.Native.Nat.{_-_}
 use native.Mathlib.Omega.{arith}
 use borrow.Author.Needs.{needs}
 use Rattle.rack.specs.File.{entryVerdict}
-use Rattle.rack.proofs.Judging.{judges-entries, Judging, judging-none, judging-done, turn-few, turn-bad, turn-room, turn-more}
+use Rattle.rack.proofs.FileJudged.{judges-entries, Judging, judging-none, judging-done, turn-few, turn-bad, turn-room, turn-more}
 use Rattle.rack.proofs.file.judge_entries.Statement.{statement}
 use Rattle.rack.proofs.file.judge_entries.Tie as tie
 

@@ -5,7 +5,7 @@ use native.Mathlib.Omega.{arith}
 use borrow.Author.Needs.{needs}
 use Rattle.rack.specs.Event.{nextBody, saidBy}
 use Rattle.rack.specs.declared.tag.Said.the-variants as s
-use Rattle.rack.proofs.Tags.{kind-label, kind-chip, kind-other, label-sized, chip-80}
+use Rattle.rack.proofs.EventTags.{kind-label, kind-chip, kind-other, label-sized, chip-80}
 use Rattle.rack.proofs.tag.step_tag.Statement.{statement}
 use Rattle.rack.proofs.tag.step_tag.Tie as tie
 

@@ -25,5 +25,5 @@ read-answer-spec =
     (λ c.
     let g = c .before .before .before in
     let v = g .before .before .before in
-    answer-right _ _ _ _ _ _ (v .is-valid .ensures) (g .before .before .if1 .left) (g .before .if2 .left) _ (g .is-right .ensures) (c .before .before .if3 .left)
-    (c .shape .ensures)))
+    answer-right _ _ _ _ _ _ (v .is-valid .ensures) (g .before .before .if1 .left) (g .before .if2 .left) _ (g .is-right .ensures)
+    (c .before .before .if3 .left) (c .shape .ensures)))

@@ -1,6 +1,6 @@
--- Each way out is a law of CommandWays; the search finds it, and its premises among the facts.
+-- A ladder of tests, in the order of the definition.
 -- Assumes nothing.
-use Rattle.reader.proofs.CommandWays.{ways}
+use Rattle.frame.proofs.Tests.{tests}
 use Rattle.reader.proofs.command.slot_fits.Statement.{statement}
 use Rattle.reader.proofs.command.slot_fits.Tie as tie
 
@@ -8,5 +8,5 @@ pub slot-fits-spec : {M : Type 1} → statement M
 slot-fits-spec =
     tie.close
     (tie.spec
-    (λ c. search ways)
-    (λ c. search ways))
+    (λ c. search tests)
+    (λ c. search tests))

@@ -1,7 +1,7 @@
--- Each way out is a law of CommandWays; the search finds it, and its premises among the facts.
+-- A ladder of tests, in the order of the definition.
 -- Assumes nothing.
 use borrow.Author.Needs.{needs}
-use Rattle.reader.proofs.CommandWays.{ways}
+use Rattle.frame.proofs.Tests.{tests}
 use Rattle.reader.proofs.command.word_fits.Statement.{statement}
 use Rattle.reader.proofs.command.word_fits.Tie as tie
 
@@ -10,5 +10,5 @@ word-fits-spec =
     tie.close
     (tie.spec
     (λ c κs. search needs)
-    (λ c. search ways)
-    (λ c. search ways))
+    (λ c. search tests)
+    (λ c. search tests))

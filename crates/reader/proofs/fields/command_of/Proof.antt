@@ -12,7 +12,7 @@ unfolding commandOf
 command-of-spec =
     tie.close
     (tie.spec
-    (λ c. rw (lt-ltb 2 _ (c .if1 .taken)))
+    (λ c. rw (lt-ltb 2 (c .before .before .args .f .target) (omega arith)))
     (λ c κs. search needs)
     (λ c κs. search needs)
     (λ c.

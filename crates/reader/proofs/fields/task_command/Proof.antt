@@ -1,6 +1,5 @@
 -- A code of more than a byte is in no row; any other is looked up.
 -- Assumes nothing.
-use mathlib.Core.Path.{sym, _∙_}
 use borrow.Author.Needs.{needs}
 use Rattle.request.proofs.TableLookup.{look-over}
 use Rattle.reader.specs.Fields.{taskCommand}

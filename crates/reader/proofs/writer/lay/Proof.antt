@@ -25,5 +25,5 @@ lay-spec =
     let u = q .before .before .before .before in
     let h = u .before .before .before .before .before in
     let a = h .before .before .before .before in
-    lay-way _ (a .args .t2) _ _ _ _ _ _ _ _ _ _ _ _ _ _ (a .pre) (search (needs, a .good)) (h .put-number .ensures) (u .put-bytes .ensures) (q .put-number2 .ensures)
-    (k .put-number3 .ensures) (d .put-bytes2 .ensures) (s .seal .ensures)))
+    lay-way _ (a .args .t2) _ _ (a .pre) (search (needs, a .good)) (h .put-number .ensures) (u .put-bytes .ensures)
+    (q .put-number2 .ensures) (k .put-number3 .ensures) (d .put-bytes2 .ensures) (s .seal .ensures)))

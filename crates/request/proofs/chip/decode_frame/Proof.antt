@@ -26,12 +26,22 @@ decode-frame-spec =
     (λ c. search needs)
     (λ c. search needs)
     (λ c κs. search needs)
-    (λ c. c .pair-order .ensures ∙ rw (whole (c .before .before .before .before .before), ne-eqb _ _ (c .before .before .before .before .if2 .left), eq-eqb _ _ (c .before .before .before .if3 .taken)))
+    (λ c.
+    let l = c .before .before .before in
+    c .pair-order .ensures ∙ rw (whole (l .before .before), ne-eqb _ _ (l .before .if2 .left), eq-eqb _ _ (l .if3 .taken)))
     (λ c. search needs)
     (λ c. search needs)
     (λ c κs. search needs)
     (λ c κs. search needs)
     (λ c.
+    let l = c .before .before .before .before in
+    let p = l .before in
     c .long-order .ensures
-    ∙ rw (c .before .word-at .ensures, whole (c .before .before .before .before .before .before .before), ne-eqb _ _ (c .before .before .before .before .before .before .if2 .left), ne-eqb _ _ (c .before .before .before .before .before .if3 .left), eq-eqb _ _ (c .before .before .before .before .if4 .taken)))
+    ∙ rw (
+      c .before .word-at .ensures,
+      whole (p .before .before),
+      ne-eqb _ _ (p .before .if2 .left),
+      ne-eqb _ _ (p .if3 .left),
+      eq-eqb _ _ (l .if4 .taken),
+    ))
     (λ c. rw (whole (c .before .before .before), ne-eqb _ _ (c .before .before .if2 .left), ne-eqb _ _ (c .before .if3 .left), ne-eqb _ _ (c .if4 .left))))

@@ -19,5 +19,11 @@ pair-order-spec =
     (λ c. search tests)
     (λ c. search tests)
     (λ c κs. search needs)
-    (λ c. rw (ne-eqb _ _ (c .before .before .before .before .if1 .left), ne-eqb _ _ (c .before .before .before .if4 .left), eq-eqb _ _ (c .before .before .if5 .left), sym (c .before .is-listed .ensures) ∙ c .if6 .taken))
-    (λ c. rw (ne-eqb _ _ (c .before .before .before .before .if1 .left), ne-eqb _ _ (c .before .before .before .if4 .left), eq-eqb _ _ (c .before .before .if5 .left), sym (c .before .is-listed .ensures) ∙ c .if6 .left)))
+    (λ c.
+    let l = c .before .before in
+    let e = sym (c .before .is-listed .ensures) ∙ c .if6 .taken in
+    rw (ne-eqb _ _ (l .before .before .if1 .left), ne-eqb _ _ (l .before .if4 .left), eq-eqb _ _ (l .if5 .left), e))
+    (λ c.
+    let l = c .before .before in
+    let e = sym (c .before .is-listed .ensures) ∙ c .if6 .left in
+    rw (ne-eqb _ _ (l .before .before .if1 .left), ne-eqb _ _ (l .before .if4 .left), eq-eqb _ _ (l .if5 .left), e)))

@@ -21,4 +21,4 @@ call-of-spec =
     (λ c κs. search needs)
     (λ c.
     let g = c .before .before .before .before in
-    c .known-call .ensures ∙ sym (call-known _ _ _ _ (g .before .if1 .left) _ (sym (g .find .ensures) ∙ c .before .before .found .given .1))))
+    c .row-call .ensures ∙ sym (call-known _ _ _ _ (g .before .if1 .left) _ (sym (g .find .ensures) ∙ c .before .before .found .given .1))))

@@ -26,9 +26,13 @@ decode-frame-spec =
     (λ c. let t = c .before .before in
     let b = t .before .before .before in
     c .right-frame .ensures
-    ∙ sym (decode-right (now (b .before .before .before .args .f)) (b .before .if1 .left) (t .before .before .if2 .left) (t .before .if3 .left) (sym (t .is-right .ensures) ∙ c .before .if4 .taken)))
+    ∙ sym
+    (decode-right (now (b .before .before .before .args .f)) (b .before .if1 .left) (t .before .before .if2 .left) (t .before .if3 .left)
+    (sym (t .is-right .ensures) ∙ c .before .if4 .taken)))
     (λ c κs. search needs)
     (λ c. let t = c .before .before in
     let b = t .before .before .before in
     c .nobody4 .ensures
-    ∙ sym (decode-wrong (now (b .before .before .before .args .f)) (b .before .if1 .left) (t .before .before .if2 .left) (t .before .if3 .left) (sym (t .is-right .ensures) ∙ c .before .if4 .left))))
+    ∙ sym
+    (decode-wrong (now (b .before .before .before .args .f)) (b .before .if1 .left) (t .before .before .if2 .left) (t .before .if3 .left)
+    (sym (t .is-right .ensures) ∙ c .before .if4 .left))))

@@ -1,6 +1,5 @@
 -- By whether the task has an answer.
 -- Assumes nothing.
-use mathlib.Core.Path.{sym}
 use borrow.Author.Needs.{needs}
 use Rattle.request.proofs.label.fault.Statement.{statement}
 use Rattle.request.proofs.label.fault.Tie as tie

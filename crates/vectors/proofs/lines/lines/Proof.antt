@@ -6,7 +6,8 @@ use Rattle.vectors.proofs.lines.lines.Statement.{statement}
 use Rattle.vectors.proofs.lines.lines.Tie as tie
 
 abbrev Inv-loop : tie.InvT-loop
-Inv-loop buf₀ tags₀ draws₀ source₀ len₀ left₀ buf tags draws source len left = (length buf ≡ length buf₀) × (length tags ≡ length tags₀) × (length draws ≡ length draws₀)
+Inv-loop buf₀ tags₀ draws₀ source₀ len₀ left₀ buf tags draws source len left =
+    (length buf ≡ length buf₀) × (length tags ≡ length tags₀) × (length draws ≡ length draws₀)
 
 abbrev μ-loop : tie.MeasureT-loop
 μ-loop buf₀ tags₀ draws₀ source₀ len₀ left₀ buf tags draws source len left = left

@@ -19,6 +19,10 @@ pcall-spec =
     (λ c. search needs)
     (λ c. search needs)
     (λ c κs. search needs)
-    (λ c. c .told .ensures ∙ rw (eq-eqb _ _ (c .before .before .before .before .if1 .left), sym (c .before .before .before .chosen .ensures), eq-eqb _ _ (c .before .if2 .taken)))
+    (λ c.
+    let k = c .before .before .before in
+    c .told .ensures ∙ rw (eq-eqb _ _ (k .before .if1 .left), sym (k .chosen .ensures), eq-eqb _ _ (c .before .if2 .taken)))
     (λ c κs. search needs)
-    (λ c. c .silent2 .ensures ∙ rw (eq-eqb _ _ (c .before .before .before .before .if1 .left), sym (c .before .before .before .chosen .ensures), ne-eqb _ _ (c .before .if2 .left))))
+    (λ c.
+    let k = c .before .before .before in
+    c .silent2 .ensures ∙ rw (eq-eqb _ _ (k .before .if1 .left), sym (k .chosen .ensures), ne-eqb _ _ (c .before .if2 .left))))

@@ -20,5 +20,21 @@ write-spec =
     (λ c. c .silent2 .ensures ∙ rw (eq-eqb _ _ (c .before .before .before .if1 .left), sym (c .before .before .is-locked .ensures) ∙ c .before .if2 .taken))
     (λ c κs. search needs)
     (λ c κs. search needs)
-    (λ c. rw (eq-eqb _ _ (c .before .before .before .before .before .if1 .left), sym (c .before .before .before .before .is-locked .ensures) ∙ c .before .before .before .if2 .left, c .before .before .write-rule .ensures, sym (c .before .sets-reload .ensures) ∙ c .if3 .taken))
-    (λ c. rw (eq-eqb _ _ (c .before .before .before .before .before .if1 .left), sym (c .before .before .before .before .is-locked .ensures) ∙ c .before .before .before .if2 .left, c .before .before .write-rule .ensures, sym (c .before .sets-reload .ensures) ∙ c .if3 .left)))
+    (λ c.
+    let w = c .before .before in
+    let l = w .before .before in
+    rw (
+      eq-eqb _ _ (l .before .if1 .left),
+      sym (l .is-locked .ensures) ∙ w .before .if2 .left,
+      w .write-rule .ensures,
+      sym (c .before .sets-reload .ensures) ∙ c .if3 .taken,
+    ))
+    (λ c.
+    let w = c .before .before in
+    let l = w .before .before in
+    rw (
+      eq-eqb _ _ (l .before .if1 .left),
+      sym (l .is-locked .ensures) ∙ w .before .if2 .left,
+      w .write-rule .ensures,
+      sym (c .before .sets-reload .ensures) ∙ c .if3 .left,
+    )))

@@ -17,9 +17,17 @@ end-of-frame-spec =
     (λ c. search needs)
     (λ c κs. search needs)
     (λ c κs. search needs)
-    (λ c. c .turn .ensures ∙ rw (c .before .in-slot .ensures, lt-ltb _ _ (c .before .before .before .if2 .taken), ne-eqb _ _ (c .before .before .before .before .before .if1 .left)))
+    (λ c.
+    let k = c .before .before .before in
+    c .turn .ensures ∙ rw (c .before .in-slot .ensures, lt-ltb _ _ (k .if2 .taken), ne-eqb _ _ (k .before .before .if1 .left)))
     (λ c κs. search needs)
     (λ c κs. search needs)
-    (λ c. c .silent2 .ensures ∙ rw (c .before .ended .ensures, le-ltb _ _ (c .before .before .before .before .if2 .left), ne-eqb _ _ (c .before .before .before .before .before .before .if1 .left), eq-eqb _ _ (c .before .before .if3 .taken)))
+    (λ c.
+    let k = c .before .before in
+    let l = k .before .before in
+    c .silent2 .ensures
+    ∙ rw (c .before .ended .ensures, le-ltb _ _ (l .if2 .left), ne-eqb _ _ (l .before .before .if1 .left), eq-eqb _ _ (k .if3 .taken)))
     (λ c κs. search needs)
-    (λ c. c .silent3 .ensures ∙ rw (le-ltb _ _ (c .before .before .before .if2 .left), ne-eqb _ _ (c .before .before .before .before .before .if1 .left), ne-eqb _ _ (c .before .if3 .left))))
+    (λ c.
+    let l = c .before .before .before in
+    c .silent3 .ensures ∙ rw (le-ltb _ _ (l .if2 .left), ne-eqb _ _ (l .before .before .if1 .left), ne-eqb _ _ (c .before .if3 .left))))

@@ -19,7 +19,7 @@ faulted-spec =
     (λ c κs. search needs)
     (λ c.
     let l = c .before .before .before in
-    c .refused .ensures ∙ rw (l .ended .ensures, ne-eqb _ _ (l .before .if1 .left), sym (c .before .before .is-meant .ensures) ∙ c .before .if2 .taken))
+    c .failed .ensures ∙ rw (l .ended .ensures, ne-eqb _ _ (l .before .if1 .left), sym (c .before .before .is-meant .ensures) ∙ c .before .if2 .taken))
     (λ c κs. search needs)
     (λ c.
     let l = c .before .before .before in

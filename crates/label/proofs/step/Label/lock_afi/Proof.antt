@@ -14,7 +14,7 @@ lock-afi-spec =
     tie.close
     (tie.spec
     (λ c κs. search needs)
-    (λ c. c .refused .ensures ∙ rw (div-one, eq-eqb _ _ (c .before .if1 .taken)))
+    (λ c. c .failed .ensures ∙ rw (div-one, eq-eqb _ _ (c .before .if1 .taken)))
     (λ c. search needs)
     (λ c κs. search needs)
     (λ c. c .done .ensures ∙ rw (div-one, ne-eqb _ _ (c .before .before .before .if1 .left))))

@@ -5,7 +5,7 @@ use borrow.Author.Needs.{needs}
 use borrow.Author.Tests.{eq-eqb, ne-eqb}
 use Rattle.request.specs.Table.{rowOf}
 use Rattle.label.specs.Step.{passed}
-use Rattle.label.proofs.Others.{passed-by}
+use Rattle.label.proofs.StepOthers.{passed-by}
 use Rattle.label.proofs.step.Label.passed.Statement.{statement}
 use Rattle.label.proofs.step.Label.passed.Tie as tie
 

@@ -15,11 +15,18 @@ write-block-spec =
     (λ c. search needs)
     (λ c. search needs)
     (λ c κs. search needs)
-    (λ c. c .refused .ensures ∙ rw (ne-eqb _ _ (c .before .if1 .taken)))
+    (λ c. c .failed .ensures ∙ rw (ne-eqb _ _ (c .before .if1 .taken)))
     (λ c κs. search needs)
-    (λ c. c .refused2 .ensures ∙ rw (eq-eqb _ _ (c .before .before .if1 .left), c .before .if2 .taken))
+    (λ c. c .failed2 .ensures ∙ rw (eq-eqb _ _ (c .before .before .if1 .left), c .before .if2 .taken))
     (λ c κs. search needs)
-    (λ c. c .refused3 .ensures ∙ rw (eq-eqb _ _ (c .before .before .before .before .if1 .left), c .before .before .before .if2 .left, lt-ltb _ _ (c .before .if3 .taken)))
+    (λ c.
+    let o = c .before .before .before in
+    c .failed3 .ensures ∙ rw (eq-eqb _ _ (o .before .if1 .left), o .if2 .left, lt-ltb _ _ (c .before .if3 .taken)))
     (λ c κs. search needs)
-    (λ c. c .refused4 .ensures ∙ rw (eq-eqb _ _ (c .before .before .before .before .before .if1 .left), c .before .before .before .before .if2 .left, le-ltb _ _ (c .before .before .if3 .left), eq-eqb _ _ (c .before .if4 .taken)))
-    (λ c. rw (eq-eqb _ _ (c .before .before .before .before .if1 .left), c .before .before .before .if2 .left, le-ltb _ _ (c .before .if3 .left), ne-eqb _ _ (c .if4 .left))))
+    (λ c.
+    let n = c .before .before in
+    let o = n .before .before in
+    c .failed4 .ensures ∙ rw (eq-eqb _ _ (o .before .if1 .left), o .if2 .left, le-ltb _ _ (n .if3 .left), eq-eqb _ _ (c .before .if4 .taken)))
+    (λ c.
+    let o = c .before .before .before in
+    rw (eq-eqb _ _ (o .before .if1 .left), o .if2 .left, le-ltb _ _ (c .before .if3 .left), ne-eqb _ _ (c .if4 .left))))
