@@ -15,12 +15,18 @@ case $(uname -m) in
 esac
 flags="-std=c11 -Wall -Wextra -Werror -pedantic -O2"
 
-# Makes the archive of the C face where there is none or a source is newer. One that could not be made leaves none behind to be tested instead.
+# One line for the toolchain and the content of every source.
+sources() {
+    { rt version; find crates crates.txt -type f -print0 | sort -z | xargs -0 sha256sum; } | sha256sum
+}
+
+# Makes the archive of the C face where there is none of these very sources. One that could not be made leaves none behind to be tested instead.
 archive() {
-    local made=target/staticlib/libstation.a
-    if [ -f "$made" ] && [ -z "$(find crates crates.txt -newer "$made" -type f -print -quit)" ]; then return 0; fi
-    rm -f "$made"
-    rt staticlib station
+    local made=target/staticlib/libstation.a of
+    of=$(sources)
+    if [ -f "$made" ] && [ "$(cat "$made.of" 2>/dev/null)" = "$of" ]; then return 0; fi
+    rm -f "$made" "$made.of"
+    rt staticlib station && echo "$of" >"$made.of"
 }
 
 # The same as a part of a test, which has sourced count.sh.
