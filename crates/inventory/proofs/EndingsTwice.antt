@@ -8,14 +8,18 @@ use native.Mathlib.Nat.{zero-add, mul-suc, mul-zero}
 use native.Mathlib.Omega.{arith}
 use lib.ListN.{length}
 use lib.Dec.{eqb, leb}
-use borrow.Author.Tests.{eq-eqb, ne-eqb, eqb-true, eqb-false, le-leb, leb-true}
+use borrow.Author.Tests.{eq-eqb, ne-eqb, eqb-true, eqb-false, le-leb, lt-leb, leb-true, leb-false}
 use Rattle.inventory.specs.Endings.{one, count, keepIf, keep, different, shared, ending}
 use Rattle.inventory.specs.Numbers.{only}
 
--- each value of xs that stands there twice or more, once: at its last but one place
+-- each value of a list that stands there more than n times, once
+abbrev pub beyond : ℕ → List ℕ → List ℕ
+beyond n [] = []
+beyond n (x ∷ xs) = keepIf (eqb n (count x xs)) x (beyond n xs)
+
+-- each value of a list that stands there twice or more, once: at its last but one place
 abbrev pub twice : List ℕ → List ℕ
-twice [] = []
-twice (x ∷ xs) = keepIf (eqb 1 (count x xs)) x (twice xs)
+twice ys = beyond 1 ys
 
 one-le : (b : Bool) → one b ≤ 1
 one-le true = omega arith
@@ -37,45 +41,41 @@ count-keepIf : (v : ℕ) (b : Bool) (x : ℕ) (xs : List ℕ) → count v (keepI
 count-keepIf v true x xs = refl
 count-keepIf v false x xs = omega arith
 
-past-one : (c : ℕ) → (1 ≡ c → ⊥) → one (leb 2 c) ≡ one (leb 2 (1 + c))
-past-one zero h = refl
-past-one (suc zero) h = absurd (h refl)
-past-one (suc (suc c)) h = rw (le-leb 2 (suc (suc c)) (omega arith), le-leb 2 (1 + suc (suc c)) (omega arith))
-
--- v stands in `twice ys` once if it stands in ys twice or more, and otherwise never
-count-twice : (v : ℕ) (ys : List ℕ) → count v (twice ys) ≡ one (leb 2 (count v ys))
-count-twice v [] = refl
-count-twice v (x ∷ xs) = count-keepIf v (eqb 1 (count x xs)) x (twice xs) ∙ go (count-twice v xs) (eqb v x) refl (eqb 1 (count x xs)) refl
+past : (n c : ℕ) → (n ≡ c → ⊥) → one (leb (suc n) c) ≡ one (leb (suc n) (1 + c))
+past n c h = go (leb (suc n) c) refl
   where
-    go : count v (twice xs) ≡ one (leb 2 (count v xs)) → (b : Bool) → eqb v x ≡ b → (q : Bool) → eqb 1 (count x xs) ≡ q
-        → only q (one b) + count v (twice xs) ≡ one (leb 2 (one b + count v xs))
+    go : (b : Bool) → leb (suc n) c ≡ b → one b ≡ one (leb (suc n) (1 + c))
+    go true e = rw (le-leb (suc n) (1 + c) (omega (arith, leb-true (suc n) c e)))
+    go false e = rw (lt-leb (suc n) (1 + c) (omega (arith, leb-false (suc n) c e)))
+
+-- v stands in `beyond n ys` once if it stands in ys more than n times, and otherwise never
+count-beyond : (n v : ℕ) (ys : List ℕ) → count v (beyond n ys) ≡ one (leb (suc n) (count v ys))
+count-beyond n v [] = rw (lt-leb (suc n) 0 (omega arith))
+count-beyond n v (x ∷ xs) =
+    count-keepIf v (eqb n (count x xs)) x (beyond n xs) ∙ go (count-beyond n v xs) (eqb v x) refl (eqb n (count x xs)) refl
+  where
+    go : count v (beyond n xs) ≡ one (leb (suc n) (count v xs)) → (b : Bool) → eqb v x ≡ b → (q : Bool) → eqb n (count x xs) ≡ q
+        → only q (one b) + count v (beyond n xs) ≡ one (leb (suc n) (one b + count v xs))
     go ih false e true q = rw (zero-add, zero-add) ih
     go ih false e false q = rw (zero-add, zero-add) ih
     go ih true e true q =
         let p : v ≡ x = eqb-true v x e in
-        let n : 1 ≡ count v xs = rw p (eqb-true 1 (count x xs) q) in
-        rw (ih, ← n)
+        let c : n ≡ count v xs = rw p (eqb-true n (count x xs) q) in
+        rw (ih, ← c, lt-leb (suc n) n (omega arith), le-leb (suc n) (1 + n) (omega arith))
     go ih true e false q =
         let p : v ≡ x = eqb-true v x e in
-        let n : 1 ≡ count v xs → ⊥ = rw p (eqb-false 1 (count x xs) q) in
-        rw zero-add (ih ∙ past-one (count v xs) n)
+        let c : n ≡ count v xs → ⊥ = rw p (eqb-false n (count x xs) q) in
+        rw zero-add (ih ∙ past n (count v xs) c)
+
+different-beyond : (ys : List ℕ) → different ys ≡ beyond 0 ys
+different-beyond [] = refl
+different-beyond (x ∷ xs) = rw (different-beyond xs)
+
+count-twice : (v : ℕ) (ys : List ℕ) → count v (twice ys) ≡ one (leb 2 (count v ys))
+count-twice v ys = count-beyond 1 v ys
 
 count-different : (v : ℕ) (ys : List ℕ) → count v (different ys) ≡ one (leb 1 (count v ys))
-count-different v [] = refl
-count-different v (x ∷ xs) = count-keepIf v (eqb 0 (count x xs)) x (different xs) ∙ go (count-different v xs) (eqb v x) refl (eqb 0 (count x xs)) refl
-  where
-    go : count v (different xs) ≡ one (leb 1 (count v xs)) → (b : Bool) → eqb v x ≡ b → (q : Bool) → eqb 0 (count x xs) ≡ q
-        → only q (one b) + count v (different xs) ≡ one (leb 1 (one b + count v xs))
-    go ih false e true q = rw (zero-add, zero-add) ih
-    go ih false e false q = rw (zero-add, zero-add) ih
-    go ih true e true q =
-        let p : v ≡ x = eqb-true v x e in
-        let n : 0 ≡ count v xs = rw p (eqb-true 0 (count x xs) q) in
-        rw (ih, ← n)
-    go ih true e false q =
-        let p : v ≡ x = eqb-true v x e in
-        let n : 0 ≡ count v xs → ⊥ = rw p (eqb-false 0 (count x xs) q) in
-        rw (zero-add, ih, le-leb 1 (count v xs) (omega arith), le-leb 1 (1 + count v xs) (omega arith))
+count-different v ys = rw (different-beyond ys) (count-beyond 0 v ys)
 
 count-keep : (v : ℕ) (p : ℕ → Bool) (ys : List ℕ) → count v (keep p ys) ≡ only (p v) (count v ys)
 count-keep v p [] = go (p v)
