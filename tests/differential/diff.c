@@ -1,8 +1,9 @@
 /* diff.c - diff [SEED [RACKS]]: random cases through the reference and through
  * another implementation, whose calls are named other_event, other_walk,
- * other_write_request, other_read_answer and other_well_formed, with the
- * parameters of the reference's. Compares every result and every lent byte;
- * stops at the first difference. Build:
+ * other_write_request, other_read_answer, other_check_sum and
+ * other_well_formed, with the parameters of the reference's. Compares every
+ * result and every lent byte; stops at the first difference. Fails too where no
+ * rack had a chip that looks like a label and has the UID of one. Build:
  *   cc -std=c11 -O2 -I../reference diff.c gen.c ../reference/[a-z]*.c OTHER -o diff
  */
 #include "gen.h"
@@ -21,13 +22,15 @@ int other_write_request(const struct ref_command *command, const uint8_t *uid, c
                         size_t data_len, uint8_t *out, size_t out_len, struct ref_written *result);
 int other_read_answer(const struct ref_command *command, const uint8_t *uid, size_t data_len,
                       const uint8_t *frame, size_t frame_len, struct ref_reading *out);
+uint16_t other_check_sum(const uint8_t *bytes, size_t len);
 
 static struct gen g;
 static struct gen_event e;
 static uint8_t ours[GEN_RACK_ROOM], theirs[GEN_RACK_ROOM];
 static uint8_t out_1[GEN_ANSWER_ROOM + 1000], out_2[GEN_ANSWER_ROOM + 1000];
 static uint64_t seed_now;
-static unsigned long cases, events, walks, carried, commands;
+static unsigned long cases, events, walks, carried, commands, sums;
+static unsigned long likes, like_uids;         /* chips that look like labels, and those with the UID of one */
 static uint32_t longest;
 
 static void print_bytes(const char *name, const uint8_t *bytes, size_t len)
@@ -158,6 +161,37 @@ static void compare_reader(void)
     }
 }
 
+/* From any place in memory, even or not. */
+static void compare_sum(void)
+{
+    static uint8_t bytes[GEN_FRAME_ROOM + 8];
+    uint8_t *from = bytes + gen_below(&g, 8);
+    size_t len = gen_bytes(&g, from);
+    cases++;
+    sums++;
+    if (ref_check_sum(from, len) != other_check_sum(from, len)) {
+        print_bytes("bytes", from, len);
+        apart("check sum");
+    }
+}
+
+static int has_label(const uint8_t *rack, const uint8_t *uid)
+{
+    for (size_t i = 0; i < ref_rack_tags(rack); i++)
+        if (ref_rack_kind(rack, i) == REF_KIND_LABEL && memcmp(rack + ref_rack_offset(rack, i), uid, REF_UID) == 0)
+            return 1;
+    return 0;
+}
+
+static void count_likes(const uint8_t *rack)
+{
+    for (size_t i = 0; i < ref_rack_tags(rack); i++)
+        if (gen_like_label(rack, i)) {
+            likes++;
+            like_uids += has_label(rack, rack + ref_rack_offset(rack, i));
+        }
+}
+
 static void one_rack(uint64_t seed)
 {
     static uint8_t rack[GEN_RACK_ROOM];
@@ -166,6 +200,9 @@ static void one_rack(uint64_t seed)
     size_t len = seed % 100 == 99 ? gen_full_rack(&g, rack) : gen_rack(&g, rack);
     if (!other_well_formed(rack, len))
         apart("well-formed");
+    count_likes(rack);
+    for (int i = 0; i < 10; i++)
+        compare_sum();
     if (seed % 20 == 8)
         compare_over_rack();
     for (int left = seed % 200 == 50 ? 2000 : 60; left > 0; left--) {
@@ -187,7 +224,8 @@ int main(int argc, char **argv)
     uint64_t racks = argc > 2 ? strtoull(argv[2], NULL, 10) : 300;
     for (uint64_t i = 0; i < racks; i++)
         one_rack(first + i);
-    printf("%lu events, %lu walks (%lu of more than one round, the longest of %u), %lu commands and answers: no difference\n", events, walks, carried,
-           (unsigned)longest, commands);
-    return 0;
+    printf("%lu events, %lu walks (%lu of more than one round, the longest of %u), %lu commands and answers, %lu check sums: no difference\n", events,
+           walks, carried, (unsigned)longest, commands, sums);
+    printf("chips that look like labels: %lu, with the UID of one on their rack: %lu\n", likes, like_uids);
+    return like_uids == 0;
 }

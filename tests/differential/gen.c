@@ -248,6 +248,51 @@ static void write_entry(uint8_t *rack, size_t entry, uint8_t kind, size_t len, s
     put_number(at + 4, offset, 4);
 }
 
+/* Entry of a random tag of that kind; -1 if there is none. */
+static int pick_tag(struct gen *g, const uint8_t *rack, uint8_t kind)
+{
+    size_t n = ref_rack_tags(rack);
+    if (n == 0)
+        return -1;
+    size_t first = gen_below(g, (uint32_t)n);
+    for (size_t i = 0; i < n; i++)
+        if (ref_rack_kind(rack, (first + i) % n) == kind)
+            return (int)((first + i) % n);
+    return -1;
+}
+
+int gen_like_label(const uint8_t *rack, size_t entry)
+{
+    const uint8_t *body = rack + ref_rack_offset(rack, entry);
+    return ref_rack_kind(rack, entry) == REF_KIND_CHIP && ref_label_well_formed(body, CHIP_LENGTH) && (body[LABEL_STATE] & 1);
+}
+
+/* Writes the chip's blocks so that all its bytes pass for a label's in state 1 or 3, often for one of this rack. */
+static void disguise(struct gen *g, const struct family *f, const uint8_t *rack, uint8_t *chip)
+{
+    static const uint8_t sizes[] = { 1, 2, 3, 5, 7, 11, 15, 23 };
+    struct family own = *f;                    /* a chip's UID makes no twin */
+    uint8_t label[CHIP_LENGTH];
+    unsigned size = one_of(g, sizes, sizeof sizes);
+    int other = pick_tag(g, rack, REF_KIND_LABEL);
+    sized_label(g, &own, label, (CHIP_LENGTH - LABEL_HEAD) / (1 + size), size);
+    if (other >= 0 && gen_chance(g, 60)) {
+        uint8_t blocks = label[LABEL_BLOCKS];
+        memcpy(label, rack + ref_rack_offset(rack, (size_t)other), LABEL_HEAD);
+        label[LABEL_BLOCKS] = blocks;
+        label[LABEL_SIZE] = (uint8_t)(size - 1);
+    }
+    label[LABEL_STATE] |= 1;
+    memcpy(chip, label, CHIP_SYSTEM);
+}
+
+static void disguise_some(struct gen *g, const struct family *f, uint8_t *rack)
+{
+    for (size_t i = 0; i < ref_rack_tags(rack); i++)
+        if (ref_rack_kind(rack, i) == REF_KIND_CHIP && gen_chance(g, 25))
+            disguise(g, f, rack, rack + ref_rack_offset(rack, i));
+}
+
 static size_t tag_count(struct gen *g)
 {
     uint32_t how = gen_below(g, 20);
@@ -289,6 +334,7 @@ size_t gen_rack(struct gen *g, uint8_t *rack)
         write_entry(rack, i, label ? REF_KIND_LABEL : REF_KIND_CHIP, len, end);
         end += len;
     }
+    disguise_some(g, &f, rack);
     return end;
 }
 
@@ -332,6 +378,7 @@ static size_t try_full_rack(struct gen *g, uint8_t *rack, size_t wanted)
         return 0;
     size_t len = sized_label(g, &f, rack + end, blocks, size);
     write_entry(rack, n - 1, REF_KIND_LABEL, len, end);
+    disguise_some(g, &f, rack);
     return end + len;
 }
 
@@ -530,6 +577,21 @@ static size_t far_length(struct gen *g)
     return gen_below(g, 16);
 }
 
+size_t gen_bytes(struct gen *g, uint8_t *bytes)
+{
+    uint32_t how = gen_below(g, 200);
+    size_t len = gen_below(g, 20);
+    if (how == 0)
+        len = gen_below(g, GEN_FRAME_ROOM);
+    else if (how < 50)
+        len = gen_below(g, 300);
+    if (gen_chance(g, 90))
+        fill(g, bytes, len);
+    else
+        memset(bytes, gen_chance(g, 50) ? 0x00 : 0xFF, len);
+    return len;
+}
+
 static size_t far_frame(struct gen *g, uint8_t *frame)
 {
     size_t len = far_length(g);
@@ -539,24 +601,14 @@ static size_t far_frame(struct gen *g, uint8_t *frame)
 
 /* ------------------------------------------------------------- label frames */
 
-/* Entry of a random tag of that kind, or of any; -1 if there is none. */
-static int pick_tag(struct gen *g, const uint8_t *rack, uint8_t kind)
-{
-    size_t n = ref_rack_tags(rack);
-    if (n == 0)
-        return -1;
-    size_t first = gen_below(g, (uint32_t)n);
-    for (size_t i = 0; i < n; i++)
-        if (ref_rack_kind(rack, (first + i) % n) == kind)
-            return (int)((first + i) % n);
-    return -1;
-}
-
-/* A label to talk to; if the rack has none, one that stands nowhere. */
+/* A label to talk to, or a chip that looks like one; if the rack has none, one that stands nowhere. */
 static const uint8_t *pick_label(struct gen *g, const uint8_t *rack)
 {
     static const uint8_t nobody[LABEL_HEAD] = { 1, 2, 3, 4, 5, 6, 7, 0xE0, [LABEL_SIZE] = 3 };
     const uint8_t *body = nobody;
+    int chip = gen_chance(g, 10) ? pick_tag(g, rack, REF_KIND_CHIP) : -1;
+    if (chip >= 0 && gen_like_label(rack, (size_t)chip))
+        return rack + ref_rack_offset(rack, (size_t)chip);
     for (int tries = 0; tries < 3; tries++) {
         int entry = pick_tag(g, rack, REF_KIND_LABEL);
         if (entry < 0)

@@ -24,8 +24,14 @@ uint8_t gen_byte(struct gen *g);
 uint32_t gen_below(struct gen *g, uint32_t n);         /* 0 to n - 1; n not 0 */
 int gen_chance(struct gen *g, uint32_t percent);
 
+/* Bytes of any kind, none, few or many; gives how many. */
+size_t gen_bytes(struct gen *g, uint8_t *bytes);
+
 /* A random well-formed rack; gives its length. */
 size_t gen_rack(struct gen *g, uint8_t *rack);
+/* Is this tag a chip whose bytes would all pass for a label's in state 1 or
+ * 3? Racks are made with some, and some of those have a label's UID. */
+int gen_like_label(const uint8_t *rack, size_t entry);
 /* A well-formed rack of exactly 65,536 bytes. */
 size_t gen_full_rack(struct gen *g, uint8_t *rack);
 /* All in order but the size: longer than 65,536 bytes, or more than 64 tags

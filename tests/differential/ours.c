@@ -6,6 +6,11 @@
 #include <stdlib.h>
 #include <string.h>
 
+uint16_t other_check_sum(const uint8_t *bytes, size_t len)
+{
+    return sackbutflare_check_sum(bytes, len);
+}
+
 int other_event(uint8_t *rack, size_t rack_len, uint8_t number, const uint8_t *frame, size_t frame_len,
                 const uint8_t *draws, size_t draws_len, uint8_t *answer, size_t answer_len,
                 struct ref_report *out)
