@@ -36,6 +36,19 @@ numberOf (m.Id id) = 0
 numberOf (m.Word word) = 0
 numberOf m.Uid = 0
 
+-- a success: neither a refusal nor an error
+unfoldable pub success : Meaning → Bool
+success (m.Refused n) = false
+success (m.Error code) = false
+success m.Done = true
+success (m.Found dsfid) = true
+success (m.Block place long) = true
+success (m.LockAndBlock lock place long) = true
+success (m.Info dsfid afi blocks size ic) = true
+success (m.Id id) = true
+success (m.Word word) = true
+success m.Uid = true
+
 -- every other number in a refusal is 0; a meaning with no UID has zeros beside it
 abbrev pub said : Meaning → Reading
 said x = record { meaning = x; uid = replicate 8 0 }
@@ -115,6 +128,13 @@ shapeOf (Inventory to option family sixteen bits mask) uid c = foundOf bits mask
 shapeOf (Label to option task p) uid c = labelReading to option task uid c
 shapeOf (Chip to option task) uid c = chipReading task c
 shapeOf (Other kind code) uid c = said (m.Refused 9)
+
+-- the commands that an error frame fits: those for labels that have an answer, save Inventory
+unfoldable pub mayErr : Command → Bool
+mayErr (Inventory to option family sixteen bits mask) = false
+mayErr (Label to option task p) = hasAnswer (rowOf task .success)
+mayErr (Chip to option task) = false
+mayErr (Other kind code) = false
 
 -- 7: no request has these fields; 8: fewer than 3 bytes, or CRC wrong; 9: CRC right, shape not one that the sent command allows
 unfoldable pub readingOf : Command → List ℕ → ℕ → List ℕ → Reading

@@ -15,7 +15,8 @@ use Rattle.request.specs.declared.label.Family.the-variants.{Any, Only}
 use Rattle.request.specs.Table.{rowOf}
 use Rattle.request.specs.declared.table.Task.{Task}
 use Rattle.request.specs.declared.table.Row.{Row}
-use Rattle.request.specs.declared.label.Call.the-variants.{Do}
+use Rattle.request.specs.declared.label.Call.the-variants as k
+use Rattle.request.specs.Label.{bare}
 use Rattle.request.specs.declared.label.Request as asked
 use Rattle.request.specs.declared.chip.Order.{Order}
 use Rattle.request.specs.declared.chip.Order.the-variants as o
@@ -108,7 +109,7 @@ uidMeant One uid = uid
 
 -- a task without a parameter is taken with 0
 unfoldable pub labelMeant : Target → Bool → Task → ℕ → List ℕ → asked.Request
-labelMeant to option task p uid = record { uid = uidMeant to uid; call = Do to task (getD (parameter (rowOf task) p) 0 0) option }
+labelMeant to option task p uid = record { uid = uidMeant to uid; call = k.Do to task (getD (parameter (rowOf task) p) 0 0) option }
 
 unfoldable pub chipMeant : ChipTask → List ℕ → Order
 chipMeant p.Initiate d = o.Initiate
@@ -120,3 +121,31 @@ chipMeant p.Reset d = o.Reset
 chipMeant (p.Read a) d = o.Read a
 chipMeant p.Uid d = o.Uid
 chipMeant (p.Write a) d = o.Write a (num d)
+
+-- the event that a command's frame is: 3 for labels, 5 for chips
+unfoldable pub eventFor : Command → ℕ
+eventFor (Inventory to option family sixteen bits mask) = 3
+eventFor (Label to option task p) = 3
+eventFor (Chip to option task) = 5
+eventFor (Other kind code) = 0
+
+-- what that event asks of labels ..
+unfoldable pub labelTakes : Command → List ℕ → asked.Request
+labelTakes (Inventory to option family sixteen bits mask) uid = bare (k.Inventory family sixteen bits mask)
+labelTakes (Label to option task p) uid = labelMeant to option task p uid
+labelTakes (Chip to option task) uid = bare k.Ignored
+labelTakes (Other kind code) uid = bare k.Ignored
+
+-- .. and of chips
+unfoldable pub chipTakes : Command → List ℕ → Order
+chipTakes (Inventory to option family sixteen bits mask) d = o.Ignored
+chipTakes (Label to option task p) d = o.Ignored
+chipTakes (Chip to option task) d = chipMeant task d
+chipTakes (Other kind code) d = o.Ignored
+
+-- the bytes that it sends to be written in a label's block
+unfoldable pub bytesSent : Command → List ℕ → List ℕ
+bytesSent (Inventory to option family sixteen bits mask) d = []
+bytesSent (Label to option task p) d = if rowOf task .block then d else []
+bytesSent (Chip to option task) d = []
+bytesSent (Other kind code) d = []
