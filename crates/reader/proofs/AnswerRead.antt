@@ -20,10 +20,11 @@ use Rattle.request.specs.declared.table.Task.{Task}
 use Rattle.request.specs.declared.table.Success.the-variants as s
 use Rattle.request.specs.declared.label.Target.{Target}
 use Rattle.request.specs.declared.label.Family.{Family}
+use Rattle.label.specs.declared.step.Answer.{Answer}
 use Rattle.label.specs.declared.step.Answer.the-variants as a
 use Rattle.label.specs.Locks.{lockOn}
 use Rattle.label.specs.Body.{sizeOf, blockAt}
-use Rattle.label.specs.Facts.{LabelFine}
+use Rattle.label.specs.Facts.{LabelFine, AnswerFits}
 use Rattle.label.specs.Answer as labelAnswer
 use Rattle.label.proofs.LocksLaws.{lock-one}
 use Rattle.label.proofs.BodyRoom.{sized-long, block-fits}
@@ -35,10 +36,10 @@ use Rattle.reader.specs.declared.command.ChipTask.the-variants as p
 use Rattle.reader.specs.declared.command.Command.{Command}
 use Rattle.reader.specs.declared.command.Command.the-variants.{Inventory, Label, Chip}
 use Rattle.reader.specs.declared.answer.Meaning.the-variants as m
-use Rattle.reader.specs.declared.answer.Reading.{Reading}
 use Rattle.reader.specs.Command.{valid}
 use Rattle.reader.specs.Answer.{said, saidOf, errorCode, isError, doneOf, blockOf, owned, infoOf, successOf, labelReading, foundOf}
 use Rattle.reader.specs.Answer.{chipReading, shapeOf, readingOf}
+use Rattle.reader.specs.Tags.{labelMeaning, bytesTold, bytesMeant}
 
 -- a frame means what its content means
 read-framed : (c : Command) (uid : List ℕ) (n : ℕ) (s : List ℕ) → valid c n ≡ true → 1 ≤ length s → readingOf c uid n (framed s) ≡ shapeOf c uid s
@@ -46,6 +47,11 @@ unfolding readingOf
 read-framed c uid n s v h =
     let l : 3 ≤ length (framed s) = omega (arith, length-framed 0xFFFF true s) in
     rw (v, le-ltb (length (framed s)) 3 l, right-all s) (ap (shapeOf c uid) (content-framed 0xFFFF true s))
+
+-- silence is no frame
+pub none-read : (c : Command) (uid : List ℕ) (n : ℕ) → valid c n ≡ true → readingOf c uid n [] ≡ said (m.Refused 8)
+unfolding readingOf
+none-read c uid n v = rw v
 
 -- ---- labels
 
@@ -75,37 +81,39 @@ lock-block x s z h l =
 abbrev pub held : ℕ → List ℕ → List ℕ
 held k b = part (blockAt b k) (sizeOf b) b
 
-abbrev pub blockSaid : Bool → ℕ → List ℕ → Reading
-blockSaid true k b = said (m.LockAndBlock (lockOn k b) 2 (sizeOf b))
-blockSaid false k b = said (m.Block 1 (sizeOf b))
-
 module _ (k : ℕ) (b : List ℕ) (ok : LabelFine b) (h : k ≤ getD b 11 0) where
   held-long : length (held k b) ≡ sizeOf b
   held-long = length-take-le (sizeOf b) (drop (blockAt b k) b) (rw (length-drop (blockAt b k) b) (omega (arith, block-fits b k (ok .sized) h)))
 
-  block-bytes : (option : Bool) → blockOf option (0 ∷ labelAnswer.blockBytes k option b) ≡ blockSaid option k b
-  unfolding labelAnswer.blockBytes
+  block-bytes : (option : Bool) → blockOf option (0 ∷ labelAnswer.blockBytes k option b) ≡ labelMeaning (a.Block k option) b
+  unfolding labelAnswer.blockBytes labelMeaning
   block-bytes true =
       lock-block (lockOn k b) (held k b) (lock-one k b (ok .locked) h) (omega (arith, held-long)) (omega (arith, ok .size, held-long))
       ∙ ap (λ (x : ℕ). said (m.LockAndBlock (lockOn k b) 2 x)) held-long
   block-bytes false =
       plain-block (held k b) (omega (arith, held-long)) (omega (arith, ok .size, held-long)) ∙ ap (λ (x : ℕ). said (m.Block 1 x)) held-long
 
-  -- at the place that is said stand the block's bytes
-  pub block-there : (part 1 (sizeOf b) (labelAnswer.answerFrame (a.Block k false) b) ≡ held k b)
-      × (part 2 (sizeOf b) (labelAnswer.answerFrame (a.Block k true) b) ≡ held k b)
-  unfolding labelAnswer.answerFrame labelAnswer.blockBytes framedWith
-  block-there =
-      let s = held k b in
-      (take-at s (bytesOf 2 (crcOf (0 ∷ s))) (sizeOf b) held-long, take-at s (bytesOf 2 (crcOf (0 ∷ lockOn k b ∷ s))) (sizeOf b) held-long)
+  -- at the place that is told stand the block's bytes
+  block-there : (option : Bool) → bytesTold (labelMeaning (a.Block k option) b .meaning) (labelAnswer.answerFrame (a.Block k option) b) ≡ held k b
+  unfolding labelAnswer.answerFrame labelAnswer.blockBytes framedWith labelMeaning bytesTold
+  block-there true = let s = held k b in take-at s (bytesOf 2 (crcOf (0 ∷ lockOn k b ∷ s))) (sizeOf b) held-long
+  block-there false = let s = held k b in take-at s (bytesOf 2 (crcOf (0 ∷ s))) (sizeOf b) held-long
+
+-- the bytes whose place is told are the block's
+pub bytes-there : (x : Answer) (b : List ℕ) → LabelFine b → AnswerFits x b
+    → bytesTold (labelMeaning x b .meaning) (labelAnswer.answerFrame x b) ≡ bytesMeant x b
+unfolding labelMeaning bytesTold bytesMeant AnswerFits
+bytes-there a.Silent b ok h = refl
+bytes-there (a.Error code) b ok h = refl
+bytes-there a.Done b ok h = refl
+bytes-there a.Found b ok h = refl
+bytes-there (a.Block k option) b ok h = block-there k b ok h option
+bytes-there a.Info b ok h = refl
 
 -- what a label says of itself
-abbrev pub infoSaid : List ℕ → Reading
-infoSaid b = saidOf (m.Info (getD b 8 0) (getD b 9 0) (getD b 11 0) (getD b 12 0) (getD b 13 0)) (part 0 8 b)
-
 info-bytes : (x : List ℕ) (to : Target) (uid b : List ℕ) → 14 ≤ length b → getD b 12 0 ≤ 31 → owned to uid (part 0 8 b) ≡ true
-    → x ≡ 0 ∷ 0x0F ∷ (part 0 10 b ++ part 11 3 b) → infoOf to uid x ≡ infoSaid b
-unfolding infoOf
+    → x ≡ 0 ∷ 0x0F ∷ (part 0 10 b ++ part 11 3 b) → infoOf to uid x ≡ labelMeaning a.Info b
+unfolding infoOf labelMeaning
 info-bytes x to uid b h z o e =
     let w : x ≡ 0 ∷ 0x0F ∷ (window 10 0 b ++ window 3 11 b) =
     e ∙ ap₂ (λ (u v : List ℕ). 0 ∷ 0x0F ∷ (u ++ v)) (sym (window-take 10 0 b (omega arith))) (sym (window-take 3 11 b (omega arith)))
@@ -130,12 +138,12 @@ module _ (to : Target) (option : Bool) (task : Task) (p : ℕ) (uid : List ℕ) 
   done-read b e = success-read [] ∙ rw e
 
   pub block-read : (k : ℕ) (b : List ℕ) → LabelFine b → k ≤ getD b 11 0 → rowOf task .success ≡ s.Block
-      → readingOf (Label to option task p) uid n (labelAnswer.answerFrame (a.Block k option) b) ≡ blockSaid option k b
+      → readingOf (Label to option task p) uid n (labelAnswer.answerFrame (a.Block k option) b) ≡ labelMeaning (a.Block k option) b
   unfolding labelAnswer.answerFrame successOf
   block-read k b ok h e = success-read (labelAnswer.blockBytes k option b) ∙ rw e (block-bytes k b ok h option)
 
   pub info-read : (b : List ℕ) → LabelFine b → owned to uid (part 0 8 b) ≡ true → rowOf task .success ≡ s.Info
-      → readingOf (Label to option task p) uid n (labelAnswer.answerFrame a.Info b) ≡ infoSaid b
+      → readingOf (Label to option task p) uid n (labelAnswer.answerFrame a.Info b) ≡ labelMeaning a.Info b
   unfolding labelAnswer.answerFrame successOf
   info-read b ok o e =
       success-read (0x0F ∷ (part 0 10 b ++ part 11 3 b))

@@ -1,4 +1,4 @@
--- Each answer that some well-formed label gives to a command is read. A label's step is a chain of choices; each end of the chain is silent or
+-- Each answer that some well-formed label gives to a command is read to what it means. A label's step is a chain of choices; each end of the chain is silent or
 -- an answer whose reading is known, so the law of the step is the law of its ends.
 -- Assumes nothing.
 use mathlib.Core.Path.{_≡_, refl, sym, ap, subst, _∙_}
@@ -33,21 +33,23 @@ use Rattle.label.specs.declared.step.Answer.the-variants as a
 use Rattle.label.specs.declared.step.Stepped.{Stepped}
 use Rattle.label.specs.Step as steps
 use Rattle.label.specs.Body as label
-use Rattle.label.specs.Answer.{speaks, answerFrame}
+use Rattle.label.specs.Answer.{answerFrame}
 use Rattle.label.specs.Facts.{LabelFine}
 use Rattle.label.specs.Slots.{takesPart, clear, during}
 use Rattle.label.proofs.FactsFine.{rules-fine}
+use Rattle.label.proofs.AnswerFrames.{told-of}
 use Rattle.label.proofs.BodyRoom.{sized-long}
 use Rattle.label.proofs.Slots.{during-uid, first, next-none, step, last, said-none, said-step, said-last}
+use Rattle.reader.specs.declared.command.Command.{Command}
 use Rattle.reader.specs.declared.command.Command.the-variants as c
+use Rattle.reader.specs.declared.answer.Reading.{Reading}
 use Rattle.reader.specs.Command.{valid}
-use Rattle.reader.specs.Request.{parameter, encode, uidMeant, labelMeant}
+use Rattle.reader.specs.Request.{parameter, encode, uidMeant, labelMeant, labelTakes}
 use Rattle.reader.specs.Answer.{errorCode, owned, readingOf}
-use Rattle.reader.specs.Tags.{LabelGives, SlotGives, after}
+use Rattle.reader.specs.Tags.{labelMeaning, bytesTold, bytesMeant, labelSays, LabelGives, after, slotSays, SlotGives}
 use Rattle.reader.proofs.CommandValid.{valid-inventory}
 use Rattle.reader.proofs.RequestMeant.{label-meant, inventory-meant}
-use Rattle.reader.proofs.AnswerSuccess.{IsSuccess, as-read}
-use Rattle.reader.proofs.AnswerRead.{error-read, done-read, block-read, info-read, found-read}
+use Rattle.reader.proofs.AnswerRead.{none-read, error-read, done-read, block-read, info-read, bytes-there, found-read}
 
 -- ---- labels
 
@@ -107,52 +109,35 @@ said-given : (to : Target) (option : Bool) (task : Task) (p : ℕ) (uid : List �
 unfolding label.saidLabel label.stepped steps.act steps.called labelMeant
 said-given to option task p uid count b = asked to option (getD (parameter (rowOf task) p) 0 0) uid b task count _
 
--- each of them is read
-given-read : (to : Target) (option : Bool) (task : Task) (p q : ℕ) (uid : List ℕ) (n : ℕ) (b : List ℕ) → valid (c.Label to option task p) n ≡ true → LabelFine b
-    → (success : row.Success) (x : Answer) → rowOf task .success ≡ success → Given to option q uid b success x → speaks x ≡ true
-    → IsSuccess (readingOf (c.Label to option task p) uid n (answerFrame x b))
-given-read to option task p q uid n b v ok success x e silent w = absurd (false≢true w)
-given-read to option task p q uid n b v ok success x e (error code h z) w =
-    as-read _ _ (error-read to option task p uid n v code b (ap hasAnswer e ∙ h) z) refl
-given-read to option task p q uid n b v ok success x e done w = as-read _ _ (done-read to option task p uid n v b e) refl
-given-read to true task p q uid n b v ok success x e (block h) w = as-read _ _ (block-read to true task p uid n v q b ok h e) refl
-given-read to false task p q uid n b v ok success x e (block h) w = as-read _ _ (block-read to false task p uid n v q b ok h e) refl
-given-read to option task p q uid n b v ok success x e (info o) w = as-read _ _ (info-read to option task p uid n v b ok o e) refl
-
--- a body that keeps to the rules
-fine-body : (b : List ℕ) → Bytes b → label.labelRules b ≡ fine → LabelFine b
-fine-body b bs e = rules-fine b bs (ap (λ (x : Verdict). x .number) e)
-
--- what a well-formed label answers to a label command is read
-pub label-gives : (to : Target) (option : Bool) (task : Task) (p : ℕ) (uid d g : List ℕ) → valid (c.Label to option task p) (length d) ≡ true → length uid ≡ 8
-    → LabelGives (encode (c.Label to option task p) uid d) g → IsSuccess (readingOf (c.Label to option task p) uid (length d) g)
-label-gives to option task p uid d g v h y =
-    let f = encode (c.Label to option task p) uid d in
-    let b = y .body in
-    let q = getD (parameter (rowOf task) p) 0 0 in
-    let n = length (dataOf f) in
-    let w =
-    subst (λ (r : Request). Given to option q uid b (rowOf task .success) (label.saidLabel r n b)) (sym (label-meant to option task p uid d v h))
-    (said-given to option task p uid n b)
-    in
-    subst (λ (x : List ℕ). IsSuccess (readingOf (c.Label to option task p) uid (length d) x)) (y .says)
-    (given-read to option task p q uid (length d) b v (fine-body b (y .bytes) (y .wellFormed)) _ _ refl w (y .speaks))
+-- each of them is read to what it means
+answer-read : (to : Target) (option : Bool) (task : Task) (p q : ℕ) (uid : List ℕ) (n : ℕ) (b : List ℕ) → valid (c.Label to option task p) n ≡ true → LabelFine b
+    → (success : row.Success) (x : Answer) → rowOf task .success ≡ success → Given to option q uid b success x
+    → readingOf (c.Label to option task p) uid n (answerFrame x b) ≡ labelMeaning x b
+unfolding answerFrame labelMeaning
+answer-read to option task p q uid n b v ok success x e silent = none-read (c.Label to option task p) uid n v
+answer-read to option task p q uid n b v ok success x e (error code h z) = error-read to option task p uid n v code b (ap hasAnswer e ∙ h) z
+answer-read to option task p q uid n b v ok success x e done = done-read to option task p uid n v b e
+answer-read to option task p q uid n b v ok success x e (block h) = block-read to option task p uid n v q b ok h e
+answer-read to option task p q uid n b v ok success x e (info o) = info-read to option task p uid n v b ok o e
 
 -- ---- Inventory
+
 uid-long : (b : List ℕ) → LabelFine b → length (part 0 8 b) ≡ 8
 uid-long b ok = length-take-le 8 b (omega (arith, sized-long b (ok .sized)))
 
 module _ (to : Target) (option : Bool) (family : Family) (sixteen : Bool) (bits mask : ℕ) (uid : List ℕ) (n : ℕ)
     (v : valid (c.Inventory to option family sixteen bits mask) n ≡ true) (b : List ℕ) where
-  -- an answer of b that, where it speaks, is read
+  -- an answer of b that is read to what it means
   abbrev Found : Answer → Type 0
-  Found x = speaks x ≡ true → IsSuccess (readingOf (c.Inventory to option family sixteen bits mask) uid n (answerFrame x b))
+  Found x = readingOf (c.Inventory to option family sixteen bits mask) uid n (answerFrame x b) ≡ labelMeaning x b
 
   none-found : Found a.Silent
-  none-found s = absurd (false≢true s)
+  unfolding answerFrame labelMeaning
+  none-found = none-read (c.Inventory to option family sixteen bits mask) uid n v
 
   one-found : length (part 0 8 b) ≡ 8 → endsIn (part 0 8 b) mask bits ≡ true → Found a.Found
-  one-found l e s = as-read _ _ (found-read to option family sixteen bits mask uid n b v l e) refl
+  unfolding labelMeaning
+  one-found l e = found-read to option family sixteen bits mask uid n b v l e
 
   call-found : (count : ℕ) → length (part 0 8 b) ≡ 8 → Found (label.saidLabel (bare (k.Inventory family sixteen bits mask)) count b)
   unfolding label.saidLabel label.stepped steps.act steps.called steps.inventory steps.heeds steps.opens steps.turn steps.ended label.loadOf endsInSlot
@@ -168,20 +153,83 @@ module _ (to : Target) (option : Bool) (family : Family) (sixteen : Bool) (bits 
           (λ q. one-found h (and-both (endsIn (part 0 8 b) mask bits) (eqb (num (part 0 8 b) / 2 ^ bits % 16) 0) q .0)) (λ q. none-found)
       opened false = if-either (λ (x : Stepped). Found (x .answer)) (endsIn (part 0 8 b) mask bits) _ _ (λ q. one-found h q) (λ q. none-found)
 
--- what a well-formed label answers to an Inventory is read
-pub inventory-gives : (to : Target) (option : Bool) (family : Family) (sixteen : Bool) (bits mask : ℕ) (uid d g : List ℕ)
-    → valid (c.Inventory to option family sixteen bits mask) (length d) ≡ true → LabelGives (encode (c.Inventory to option family sixteen bits mask) uid d) g
-    → IsSuccess (readingOf (c.Inventory to option family sixteen bits mask) uid (length d) g)
-inventory-gives to option family sixteen bits mask uid d g v y =
-    let f = encode (c.Inventory to option family sixteen bits mask) uid d in
+-- ---- any command
+
+-- to nothing that was asked a label says nothing
+ignored-read : (command : Command) (uid : List ℕ) (n : ℕ) → valid command n ≡ true → (count : ℕ) (b : List ℕ)
+    → readingOf command uid n (answerFrame (label.saidLabel (bare k.Ignored) count b) b) ≡ labelMeaning (label.saidLabel (bare k.Ignored) count b) b
+unfolding label.saidLabel label.stepped steps.act steps.called answerFrame labelMeaning
+ignored-read command uid n v count b = none-read command uid n v
+
+takes-read : (command : Command) (uid : List ℕ) (n : ℕ) → valid command n ≡ true → (count : ℕ) (b : List ℕ) → LabelFine b
+    → readingOf command uid n (answerFrame (label.saidLabel (labelTakes command uid) count b) b)
+    ≡ labelMeaning (label.saidLabel (labelTakes command uid) count b) b
+unfolding labelTakes valid
+takes-read (c.Inventory to option family sixteen bits mask) uid n v count b ok = call-found to option family sixteen bits mask uid n v b count (uid-long b ok)
+takes-read (c.Label to option task p) uid n v count b ok =
+    answer-read to option task p (getD (parameter (rowOf task) p) 0 0) uid n b v ok (rowOf task .success)
+    (label.saidLabel (labelMeant to option task p uid) count b) refl (said-given to option task p uid count b)
+takes-read (c.Chip to option task) uid n v count b ok = ignored-read (c.Chip to option task) uid n v count b
+takes-read (c.Other kind code) uid n v count b ok = absurd (false≢true v)
+
+-- what a label with a well-formed body says to what a command asks of it is read to what it means, silence too ..
+pub label-read : (command : Command) (uid : List ℕ) (n : ℕ) → valid command n ≡ true → (r : Request) → r ≡ labelTakes command uid
+    → (count : ℕ) (b : List ℕ) → LabelFine b
+    → readingOf command uid n (answerFrame (label.saidLabel r count b) b) ≡ labelMeaning (label.saidLabel r count b) b
+label-read command uid n v r e count b ok = rw e (takes-read command uid n v count b ok)
+
+-- .. and where the reading tells the place of bytes, there stand the block's
+pub label-bytes : (command : Command) (uid : List ℕ) (n : ℕ) → valid command n ≡ true → (r : Request) → r ≡ labelTakes command uid
+    → (count : ℕ) (b : List ℕ) → LabelFine b
+    → bytesTold (readingOf command uid n (answerFrame (label.saidLabel r count b) b) .meaning) (answerFrame (label.saidLabel r count b) b)
+    ≡ bytesMeant (label.saidLabel r count b) b
+label-bytes command uid n v r e count b ok =
+    let x = label.saidLabel r count b in
+    ap (λ (y : Reading). bytesTold (y .meaning) (answerFrame x b)) (label-read command uid n v r e count b ok) ∙ bytes-there x b ok (told-of r count b)
+
+-- a body that keeps to the rules
+fine-body : (b : List ℕ) → Bytes b → label.labelRules b ≡ fine → LabelFine b
+fine-body b bs e = rules-fine b bs (ap (λ (x : Verdict). x .number) e)
+
+-- what a well-formed label answers to a label command is read to what it means ..
+pub label-gives : (to : Target) (option : Bool) (task : Task) (p : ℕ) (uid d g : List ℕ) → valid (c.Label to option task p) (length d) ≡ true → length uid ≡ 8
+    → (y : LabelGives (encode (c.Label to option task p) uid d) g)
+    → readingOf (c.Label to option task p) uid (length d) g ≡ labelMeaning (labelSays (encode (c.Label to option task p) uid d) (y .body)) (y .body)
+unfolding labelTakes
+label-gives to option task p uid d g v h y =
+    let f = encode (c.Label to option task p) uid d in
     let b = y .body in
-    let n = length (dataOf f) in
-    let P = Found to option family sixteen bits mask uid (length d) v b in
-    let w : P (label.saidLabel (decode f) n b) =
-    subst (λ (r : Request). P (label.saidLabel r n b)) (sym (inventory-meant to option family sixteen bits mask uid d v))
-    (call-found to option family sixteen bits mask uid (length d) v b n (uid-long b (fine-body b (y .bytes) (y .wellFormed))))
-    in
-    subst (λ (x : List ℕ). IsSuccess (readingOf (c.Inventory to option family sixteen bits mask) uid (length d) x)) (y .says) (w (y .speaks))
+    ap (readingOf (c.Label to option task p) uid (length d)) (sym (y .says))
+    ∙ label-read (c.Label to option task p) uid (length d) v (decode f) (label-meant to option task p uid d v h) (length (dataOf f)) b
+    (fine-body b (y .bytes) (y .wellFormed))
+
+-- .. and the bytes of the block that it gives stand where the reading says
+pub label-gives-bytes : (to : Target) (option : Bool) (task : Task) (p : ℕ) (uid d g : List ℕ) → valid (c.Label to option task p) (length d) ≡ true
+    → length uid ≡ 8 → (y : LabelGives (encode (c.Label to option task p) uid d) g)
+    → bytesTold (readingOf (c.Label to option task p) uid (length d) g .meaning) g
+    ≡ bytesMeant (labelSays (encode (c.Label to option task p) uid d) (y .body)) (y .body)
+unfolding labelTakes
+label-gives-bytes to option task p uid d g v h y =
+    let f = encode (c.Label to option task p) uid d in
+    let b = y .body in
+    ap (λ (x : List ℕ). bytesTold (readingOf (c.Label to option task p) uid (length d) x .meaning) x) (sym (y .says))
+    ∙ label-bytes (c.Label to option task p) uid (length d) v (decode f) (label-meant to option task p uid d v h) (length (dataOf f)) b
+    (fine-body b (y .bytes) (y .wellFormed))
+
+-- what a well-formed label answers to an Inventory is read to what it means
+pub inventory-gives : (to : Target) (option : Bool) (family : Family) (sixteen : Bool) (bits mask : ℕ) (uid d g : List ℕ)
+    → valid (c.Inventory to option family sixteen bits mask) (length d) ≡ true
+    → (y : LabelGives (encode (c.Inventory to option family sixteen bits mask) uid d) g)
+    → readingOf (c.Inventory to option family sixteen bits mask) uid (length d) g
+    ≡ labelMeaning (labelSays (encode (c.Inventory to option family sixteen bits mask) uid d) (y .body)) (y .body)
+unfolding labelTakes
+inventory-gives to option family sixteen bits mask uid d g v y =
+    let command = c.Inventory to option family sixteen bits mask in
+    let f = encode command uid d in
+    let b = y .body in
+    ap (readingOf command uid (length d)) (sym (y .says))
+    ∙ label-read command uid (length d) v (decode f) (inventory-meant to option family sixteen bits mask uid d v) (length (dataOf f)) b
+    (fine-body b (y .bytes) (y .wellFormed))
 
 -- ---- later slots
 
@@ -208,9 +256,9 @@ module _ (f : List ℕ) (family : Family) (bits mask : ℕ) (b : List ℕ) (bs :
 module _ (to : Target) (option : Bool) (family : Family) (bits mask : ℕ) (uid : List ℕ) (n : ℕ)
     (v : valid (c.Inventory to option family true bits mask) n ≡ true) (b : List ℕ) (ok : LabelFine b) where
   abbrev Later : List ℕ → Type 0
-  Later x = Found to option family true bits mask uid n v x (label.saidLabel (bare k.EndOfFrame) 0 x)
+  Later x = Found to option family true bits mask uid n v x (slotSays x)
 
-  nothing-said : (x : List ℕ) → label.saidLabel (bare k.EndOfFrame) 0 x ≡ a.Silent → Later x
+  nothing-said : (x : List ℕ) → slotSays x ≡ a.Silent → Later x
   nothing-said x e = subst (Found to option family true bits mask uid n v x) (sym e) (none-found to option family true bits mask uid n v x)
 
   facts : (bits ≤ 60) × (mask < 2 ^ bits)
@@ -241,8 +289,11 @@ module _ (to : Target) (option : Bool) (family : Family) (bits mask : ℕ) (uid 
   clear-said : Later (clear b)
   clear-said = nothing-said (clear b) (said-none family bits mask b ok (facts .0) (facts .1) 0)
 
-  after-said : (f : List ℕ) → Bytes b → decode f ≡ bare (k.Inventory family true bits mask) → (m : ℕ) → Later (after f b m)
-  after-said f bs q m = go (ltb m 15) (eqb m 15) refl refl
+  -- what a label with a well-formed body says to each end of frame behind a sixteen-slot Inventory's frame is read to what it means, silence too
+  pub slot-read : (f : List ℕ) → Bytes b → decode f ≡ bare (k.Inventory family true bits mask) → (m : ℕ)
+      → readingOf (c.Inventory to option family true bits mask) uid n (answerFrame (slotSays (after f b m)) (after f b m))
+      ≡ labelMeaning (slotSays (after f b m)) (after f b m)
+  slot-read f bs q m = go (ltb m 15) (eqb m 15) refl refl
     where
       go : (x y : Bool) → ltb m 15 ≡ x → eqb m 15 ≡ y → Later (after f b m)
       go true y i j =
@@ -255,12 +306,15 @@ module _ (to : Target) (option : Bool) (family : Family) (bits mask : ℕ) (uid 
           let e : m ≡ m - 16 + 16 = let h = ltb-false m 15 i in let z = eqb-false m 15 j in omega arith in
           rw e (subst Later (sym (after-ended f family bits mask b bs ok (facts .0) (facts .1) q (m - 16))) clear-said)
 
--- what a well-formed label answers in a later slot of a sixteen-slot Inventory is read
+-- what a well-formed label answers in a later slot of a sixteen-slot Inventory is read to what it means
 pub slot-gives : (to : Target) (option : Bool) (family : Family) (bits mask : ℕ) (uid d g : List ℕ)
-    → valid (c.Inventory to option family true bits mask) (length d) ≡ true → SlotGives (encode (c.Inventory to option family true bits mask) uid d) g
-    → IsSuccess (readingOf (c.Inventory to option family true bits mask) uid (length d) g)
+    → valid (c.Inventory to option family true bits mask) (length d) ≡ true
+    → (y : SlotGives (encode (c.Inventory to option family true bits mask) uid d) g)
+    → readingOf (c.Inventory to option family true bits mask) uid (length d) g
+    ≡ labelMeaning (slotSays (after (encode (c.Inventory to option family true bits mask) uid d) (y .body) (y .n)))
+    (after (encode (c.Inventory to option family true bits mask) uid d) (y .body) (y .n))
 slot-gives to option family bits mask uid d g v y =
-    let f = encode (c.Inventory to option family true bits mask) uid d in
-    let ok = fine-body (y .body) (y .bytes) (y .wellFormed) in
-    let w = after-said to option family bits mask uid (length d) v (y .body) ok f (y .bytes) (inventory-meant to option family true bits mask uid d v) (y .n) in
-    subst (λ (x : List ℕ). IsSuccess (readingOf (c.Inventory to option family true bits mask) uid (length d) x)) (y .says) (w (y .speaks))
+    let command = c.Inventory to option family true bits mask in
+    ap (readingOf command uid (length d)) (sym (y .says))
+    ∙ slot-read to option family bits mask uid (length d) v (y .body) (fine-body (y .body) (y .bytes) (y .wellFormed)) (encode command uid d) (y .bytes)
+    (inventory-meant to option family true bits mask uid d v) (y .n)
