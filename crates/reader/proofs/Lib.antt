@@ -8,6 +8,7 @@ pub mod RequestOneReply
 pub mod AnswerWays
 pub mod AnswerRead
 pub mod AnswerSuccess
+pub mod AnswerErrors
 pub mod AnswerOneReply
 pub mod TagsLabelRead
 pub mod TagsChipRead
