@@ -27,6 +27,11 @@ pub fits-true : (x : Bool) (r : Reading) → IsSuccess (fits x r) → x ≡ true
 fits-true true r h = refl
 fits-true false r h = absurd (omega arith)
 
+-- what holds of a refusal and of the reading holds where the test decides
+pub fits-either : (P : Reading → Type 0) (x : Bool) (r : Reading) → P (said (m.Refused 9)) → P r → P (fits x r)
+fits-either P true r h z = z
+fits-either P false r h z = h
+
 pub record Right (x : Command) (uid : List ℕ) (n : ℕ) (f : List ℕ) : Type 0 where
   pub fields : valid x n ≡ true
   pub frame : f ≡ framed (content f)

@@ -15,4 +15,5 @@ pub mod TagsChipRead
 pub mod TagsMade
 pub mod TagsLabelGiven
 pub mod TagsChipGiven
+pub mod TagsCommand
 pub mod ToldWays
