@@ -4,6 +4,7 @@ pub mod CommandWays
 pub mod PlanParts
 pub mod RequestWays
 pub mod RequestMeant
+pub mod RequestTaken
 pub mod RequestOneReply
 pub mod AnswerWays
 pub mod AnswerRead

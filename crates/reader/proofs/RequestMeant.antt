@@ -15,7 +15,6 @@ use Rattle.frame.proofs.CheckSumFrames.{length-framed, right-all}
 use Rattle.request.specs.Table.{rowOf}
 use Rattle.request.specs.Label as labels
 use Rattle.request.specs.declared.table.Task.{Task}
-use Rattle.request.specs.declared.table.Task.the-variants as t
 use Rattle.request.specs.declared.table.Row.{Row}
 use Rattle.request.specs.declared.label.Target.{Target}
 use Rattle.request.specs.declared.label.Target.the-variants.{Everyone, Selected, One}
@@ -74,15 +73,22 @@ label-meant to option task p uid d v h =
     flags-back to option (rowOf task .code) uid (params (rowOf task) p d) h
     ∙ ap (λ (x : Call). record { uid = uidMeant to uid; call = x }) (call-back to option task p d (valid-label to option task p (length d) v))
 
--- and the bytes that a write sends
-pub data-meant : (to : Target) (option : Bool) (p : ℕ) (uid d : List ℕ) → length uid ≡ 8 → labels.dataOf (encode (Label to option t.Write p) uid d) ≡ d
-unfolding encode content rowOf
-data-meant Everyone true p uid d h = data-open-back 66 0x21 p d refl
-data-meant Everyone false p uid d h = data-open-back 2 0x21 p d refl
-data-meant Selected true p uid d h = data-open-back 82 0x21 p d refl
-data-meant Selected false p uid d h = data-open-back 18 0x21 p d refl
-data-meant One true p uid d h = data-one-back 98 0x21 p uid d h refl
-data-meant One false p uid d h = data-one-back 34 0x21 p uid d h refl
+-- and the bytes that go with a block
+pub data-meant : (to : Target) (option : Bool) (task : Task) (p : ℕ) (uid d : List ℕ) → length uid ≡ 8 → rowOf task .block ≡ true
+    → labels.dataOf (encode (Label to option task p) uid d) ≡ d
+unfolding encode content
+data-meant to option task p uid d h e = rw (e, row-fine task .block e) (go to option)
+  where
+    x : ℕ
+    x = rowOf task .code
+
+    go : (to : Target) (option : Bool) → labels.dataOf (framed (flags to option ∷ x ∷ (uidPart to uid ++ (p ∷ d)))) ≡ d
+    go Everyone true = data-open-back 66 x p d refl
+    go Everyone false = data-open-back 2 x p d refl
+    go Selected true = data-open-back 82 x p d refl
+    go Selected false = data-open-back 18 x p d refl
+    go One true = data-one-back 98 x p uid d h refl
+    go One false = data-one-back 34 x p uid d h refl
 
 -- an Inventory
 pub inventory-meant : (to : Target) (option : Bool) (family : Family) (sixteen : Bool) (bits mask : ℕ) (uid d : List ℕ)

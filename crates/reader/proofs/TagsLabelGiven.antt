@@ -295,7 +295,7 @@ module _ (to : Target) (option : Bool) (p : ℕ) (uid d : List ℕ) (hu : length
       done-given t.Write v s (length d) refl z (l .0) (l .1)
       (λ b x h y.
       rw (
-        eq-eqb (length (dataOf (sent t.Write))) (getD b 12 0 + 1) (ap length (data-meant to option p uid d hu) ∙ sym h ∙ sym (y .size)),
+        eq-eqb (length (dataOf (sent t.Write))) (getD b 12 0 + 1) (ap length (data-meant to option t.Write p uid d hu refl) ∙ sym h ∙ sym (y .size)),
         no-option option (w .allowed),
         le-ltb (getD b 11 0) p (omega (arith, y .blocks)),
         y .locked p (omega arith),
