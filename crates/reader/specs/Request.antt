@@ -1,4 +1,5 @@
 -- Document 01, "Reader's side": the bytes of a request, and what the writer leaves. Assumes nothing.
+use mathlib.Core.Path.{_≡_}
 use mathlib.Core.Bool.{Bool}
 use mathlib.Core.List.{List, [], _∷_, _++_}
 use Prim.Native.Nat.{ℕ, _+_, _-_, _*_}
@@ -99,6 +100,11 @@ unfoldable pub outOf : Command → List ℕ → List ℕ → List ℕ → List �
 outOf c uid d out =
     if eqb (refusalOf c (length d) (length out)) 0 then atFront (encode c uid d) out
     else out
+
+-- what every call keeps to: r comes back, and out is left as now
+pub record Wrote (c : Command) (uid d out : List ℕ) (r : Written) (now : List ℕ) : Type 0 where
+  pub report : r ≡ writtenOf c uid d out
+  pub left : now ≡ outOf c uid d out
 
 -- ---- what it means to the tags
 

@@ -16,7 +16,7 @@ ghost use lib.ListN.{length};
 ghost use Rattle.frame.specs.Choose.{if_then_else_};
 ghost use Rattle.frame.specs.CheckSum.{framed};
 ghost use Rattle.frame.specs.Ending.{bytesFor};
-ghost use Rattle.reader.specs.Request.{mode, flags, atFront, writtenOf, outOf};
+ghost use Rattle.reader.specs.Request.{mode, flags, atFront, Wrote};
 ghost use Rattle.reader.specs.Plan.{partsOf, uidCount, labelPlan, shortPlan, maskPlan, inventoryPlan, chipPlan, planOf};
 ghost use Rattle.reader.specs.Plan.{RangedFamily, RangedChip, Ranged, PlanFits};
 
@@ -236,8 +236,7 @@ fn lay(p: Plan, uid: [u8; 8], data: &[u8], out: &mut [u8]) -> Written
 // Writes the request for c to the front of out: uid is the target's where c is for one UID, data what a write sends.
 // Bytes behind it stay; a refusal changes nothing.
 pub fn write_request(c: Command, uid: [u8; 8], data: &[u8], out: &mut [u8]) -> Written
-    ensures { λ r. ⌜ (r ≡ writtenOf c uid (now («data» .entry)) (now (out .entry)))
-        × (now (out .exit) ≡ outOf c uid (now («data» .entry)) (now (out .entry))) ⌝ }
+    ensures { λ r. ⌜ Wrote c uid (now («data» .entry)) (now (out .entry)) r (now (out .exit)) ⌝ }
 {
     if out.len() < LEAST {
         return Written {

@@ -13,7 +13,7 @@ ghost use Rattle.frame.specs.CheckSum.{crcOf};
 ghost use Rattle.rack.specs.Event.{eventOf};
 ghost use Rattle.inventory.specs.Walk.{walkOf};
 ghost use Rattle.inventory.specs.Promise.{Promise};
-ghost use Rattle.reader.specs.Request.{writtenOf, outOf};
+ghost use Rattle.reader.specs.Request.{Wrote};
 ghost use Rattle.reader.specs.Answer.{readingOf};
 ghost use Rattle.reader.specs.Fields.{familyOf, commandOf};
 ghost use Rattle.reader.specs.Told.{toldOf};
@@ -59,8 +59,7 @@ pub extern "C" fn sackbutflare_write_request(
     data: &[u8],
     out: &mut [u8],
 ) -> Written
-    ensures { λ r. ⌜ r ≡ writtenOf (commandOf f) (now (uid .entry)) (now («data» .entry)) (now (out .entry)) ⌝ }
-    ensures { λ _. ⌜ now (out .exit) ≡ outOf (commandOf f) (now (uid .entry)) (now («data» .entry)) (now (out .entry)) ⌝ }
+    ensures { λ r. ⌜ Wrote (commandOf f) (now (uid .entry)) (now («data» .entry)) (now (out .entry)) r (now (out .exit)) ⌝ }
 {
     let c = command_of(f);
     reader::writer::write_request(c, *uid, data, out)
