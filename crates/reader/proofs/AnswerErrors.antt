@@ -30,7 +30,7 @@ use Rattle.reader.specs.declared.answer.Reading.{Reading}
 use Rattle.reader.specs.Command.{valid}
 use Rattle.reader.specs.Answer.{said, fits, errorCode, isError, doneOf, blockOf, owned, infoOf, successOf, labelReading, foundOf}
 use Rattle.reader.specs.Answer.{chipReading, shapeOf, mayErr, readingOf}
-use Rattle.reader.proofs.AnswerSuccess.{as-read, fits-either, told-right}
+use Rattle.reader.proofs.AnswerRight.{as-read, fits-either, told-right}
 use Rattle.reader.proofs.AnswerRead.{error-read}
 
 -- an error's code and 1; 0 for every other meaning

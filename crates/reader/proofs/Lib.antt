@@ -8,7 +8,7 @@ pub mod RequestTaken
 pub mod RequestOneReply
 pub mod AnswerWays
 pub mod AnswerRead
-pub mod AnswerSuccess
+pub mod AnswerRight
 pub mod AnswerErrors
 pub mod AnswerOneReply
 pub mod TagsLabelRead

@@ -35,7 +35,7 @@ use Rattle.reader.specs.Answer.{chipReading, shapeOf, readingOf}
 use Rattle.reader.specs.Tags.{ChipGives}
 use Rattle.reader.proofs.CommandValid.{valid-chip, read-listed}
 use Rattle.reader.proofs.RequestMeant.{chip-meant}
-use Rattle.reader.proofs.AnswerSuccess.{IsSuccess, fits-true, told-right}
+use Rattle.reader.proofs.AnswerRight.{NoRefusal, fits-true, told-right}
 use Rattle.reader.proofs.TagsMade.{bytes-none, bytes-same, again, bytes-again, again-part}
 
 -- every block s; UID, state and Chip_ID
@@ -171,7 +171,7 @@ module _ (to : Target) (option : Bool) (uid d : List ℕ) where
   selected-given task x u s id y v bx bu h e w i =
       give task (chipMade x u 3 id) (framed s) 0 y v (chip-bytes x u 3 id bx bu (lit< tt) h) (chip-long x u 3 id) (selected-rules x u id) (lit< tt) e w i
 
-  task-given : (task : ChipTask) (s : List ℕ) → Valid task → Bytes s → IsSuccess (chipReading task s) → Gives task (framed s)
+  task-given : (task : ChipTask) (s : List ℕ) → Valid task → Bytes s → NoRefusal (chipReading task s) → Gives task (framed s)
   unfolding chipReading
   task-given p.Initiate s v bs h =
       let n = eqb-true (length s) 1 (fits-true (eqb (length s) 1) _ h) in
@@ -203,10 +203,10 @@ module _ (to : Target) (option : Bool) (uid d : List ℕ) where
   task-given (p.Write n) s v bs h = absurd (omega arith)
 
 -- a success read to a chip command is one that some well-formed chip gives
-pub chip-given : (to : Target) (option : Bool) (task : ChipTask) (uid d f : List ℕ) → Bytes f → IsSuccess (readingOf (c.Chip to option task) uid (length d) f)
+pub chip-given : (to : Target) (option : Bool) (task : ChipTask) (uid d f : List ℕ) → Bytes f → NoRefusal (readingOf (c.Chip to option task) uid (length d) f)
     → ChipGives (encode (c.Chip to option task) uid d) f
 unfolding shapeOf
 chip-given to option task uid d f bs h =
     let y = told-right (c.Chip to option task) uid (length d) f bs h in
     subst (ChipGives (encode (c.Chip to option task) uid d)) (sym (y .frame))
-    (task-given to option uid d task (content f) (y .fields) (bytes-take (length f - 2) f bs) (subst IsSuccess (y .shape) h))
+    (task-given to option uid d task (content f) (y .fields) (bytes-take (length f - 2) f bs) (subst NoRefusal (y .shape) h))

@@ -29,7 +29,7 @@ use Rattle.reader.specs.Request.{encode}
 use Rattle.reader.specs.Answer.{numberOf, success, foundOf, shapeOf, readingOf}
 use Rattle.reader.specs.Tags.{labelMeaning, chipMeaning, bytesTold, Gives, givenMeaning, givenBytes}
 use Rattle.reader.specs.Plan.{Ranged}
-use Rattle.reader.proofs.AnswerSuccess.{fits-either, told-right}
+use Rattle.reader.proofs.AnswerRight.{fits-either, told-right}
 use Rattle.reader.proofs.TagsLabelRead.{label-gives, label-gives-bytes, inventory-gives, slot-gives}
 use Rattle.reader.proofs.TagsChipRead.{chip-gives}
 use Rattle.reader.proofs.TagsLabelGiven.{label-given, one-slot-given, sixteen-given}

@@ -53,21 +53,21 @@ use Rattle.reader.specs.Plan.{RangedFamily}
 use Rattle.reader.proofs.CommandValid.{valid-inventory, valid-label, block-long}
 use Rattle.reader.proofs.RequestMeant.{label-meant, data-meant, inventory-meant}
 use Rattle.reader.proofs.AnswerRead.{held}
-use Rattle.reader.proofs.AnswerSuccess.{IsSuccess, fits-true, told-right}
+use Rattle.reader.proofs.AnswerRight.{NoRefusal, fits-true, told-right}
 use Rattle.reader.proofs.TagsLabelRead.{after-slot}
 use Rattle.reader.proofs.TagsMade.{bytes-same, made, Body, made-body}
 
 -- a label's answer that is no error is a success
-plain-success : (to : Target) (option : Bool) (task : Task) (uid s : List ℕ) → IsSuccess (labelReading to option task uid s)
-    → ((code : ℕ) → labelReading to option task uid s .meaning ≡ m.Error code → ⊥) → IsSuccess (successOf to option (rowOf task .success) uid s)
+plain-success : (to : Target) (option : Bool) (task : Task) (uid s : List ℕ) → NoRefusal (labelReading to option task uid s)
+    → ((code : ℕ) → labelReading to option task uid s .meaning ≡ m.Error code → ⊥) → NoRefusal (successOf to option (rowOf task .success) uid s)
 unfolding labelReading
 plain-success to option task uid s h ne = go (hasAnswer (rowOf task .success) && isError s) h ne
   where
     r : Reading
     r = successOf to option (rowOf task .success) uid s
 
-    go : (b : Bool) → IsSuccess (if b then said (m.Error (getD s 1 0)) else r)
-        → ((code : ℕ) → (if b then said (m.Error (getD s 1 0)) else r) .meaning ≡ m.Error code → ⊥) → IsSuccess r
+    go : (b : Bool) → NoRefusal (if b then said (m.Error (getD s 1 0)) else r)
+        → ((code : ℕ) → (if b then said (m.Error (getD s 1 0)) else r) .meaning ≡ m.Error code → ⊥) → NoRefusal r
     go true z ne = absurd (ne (getD s 1 0) refl)
     go false z ne = z
 
@@ -121,7 +121,7 @@ taken-small zero p h = lit< tt
 taken-small (suc k) p h = h
 
 -- 00 alone
-zero-alone : (s : List ℕ) → IsSuccess (doneOf s) → s ≡ 0 ∷ []
+zero-alone : (s : List ℕ) → NoRefusal (doneOf s) → s ≡ 0 ∷ []
 unfolding doneOf
 zero-alone s h =
     let e = and-both (eqb (length s) 1) (eqb (getD s 0 0) 0) (fits-true (eqb (length s) 1 && eqb (getD s 0 0) 0) (said m.Done) h) in
@@ -144,7 +144,7 @@ record Shape (option : Bool) (s : List ℕ) : Type 0 where
   most : length rest ≤ 32
   is : blockContent option lock rest ≡ s
 
-shape : (option : Bool) (s : List ℕ) → Bytes s → IsSuccess (blockOf option s) → Shape option s
+shape : (option : Bool) (s : List ℕ) → Bytes s → NoRefusal (blockOf option s) → Shape option s
 unfolding blockOf
 shape true s bs h =
     let e0 = fits-true (leb 3 (length s) && (leb (length s) 34 && (eqb (getD s 0 0) 0 && leb (getD s 1 0) 1))) _ h in
@@ -229,7 +229,7 @@ module _ (to : Target) (option : Bool) (p : ℕ) (uid d : List ℕ) (hu : length
         (said-acts b (y .state) (acts-made to uid u b (y .state) (y .uid) o) z) w i
 
     -- k bytes in a block: those sent, or one
-    done-given : (s : List ℕ) (k : ℕ) → rowOf task .success ≡ Done → IsSuccess (successOf to option (rowOf task .success) uid s) → 1 ≤ k → k ≤ 32
+    done-given : (s : List ℕ) (k : ℕ) → rowOf task .success ≡ Done → NoRefusal (successOf to option (rowOf task .success) uid s) → 1 ≤ k → k ≤ 32
         → ((b x : List ℕ) → length x ≡ k → Body b uid 0 0 255 0 0 x → Says task b a.Done) → LabelGives (sent task) (framed s)
     unfolding successOf
     done-given s k e z lo hi f =
@@ -242,7 +242,7 @@ module _ (to : Target) (option : Bool) (p : ℕ) (uid d : List ℕ) (hu : length
         asked (framed s) a.Done y (own-uid to uid) (f b x l y) refl (done-frame b ∙ ap framed (sym (zero-alone s (rw e at z))))
 
     -- every block holds what was read
-    block-given : (s : List ℕ) → Bytes s → rowOf task .success ≡ Block → IsSuccess (successOf to option (rowOf task .success) uid s)
+    block-given : (s : List ℕ) → Bytes s → rowOf task .success ≡ Block → NoRefusal (successOf to option (rowOf task .success) uid s)
         → ((b : List ℕ) → getD b 11 0 ≡ 255 → Says task b (a.Block (taken task p) option)) → LabelGives (sent task) (framed s)
     unfolding successOf
     block-given s bs e z f =
@@ -255,7 +255,7 @@ module _ (to : Target) (option : Bool) (p : ℕ) (uid d : List ℕ) (hu : length
         (block-frame n option (w .lock) b (w .rest) (y .locked n h) (y .block n h) ∙ ap framed (w .is))
 
     -- a label with the numbers that were read
-    info-given : (s : List ℕ) → Bytes s → rowOf task .success ≡ Info → IsSuccess (successOf to option (rowOf task .success) uid s)
+    info-given : (s : List ℕ) → Bytes s → rowOf task .success ≡ Info → NoRefusal (successOf to option (rowOf task .success) uid s)
         → ((b : List ℕ) → Says task b a.Info) → LabelGives (sent task) (framed s)
     unfolding successOf infoOf
     info-given s bs e z f =
@@ -284,7 +284,7 @@ module _ (to : Target) (option : Bool) (p : ℕ) (uid d : List ℕ) (hu : length
   -- ---- a success read to a label command is one that some well-formed label gives
 
   task-given : (task : Task) (s : List ℕ) → valid (c.Label to option task p) (length d) ≡ true → Bytes s
-      → IsSuccess (successOf to option (rowOf task .success) uid s) → LabelGives (sent task) (framed s)
+      → NoRefusal (successOf to option (rowOf task .success) uid s) → LabelGives (sent task) (framed s)
   unfolding rowOf successOf steps.perform steps.readBlock steps.writeBlock steps.lockBlock steps.writeAfi steps.lockAfi steps.writeDsfid steps.lockDsfid
       steps.ended label.loadOf
   task-given t.Quiet s v bs z = absurd (omega arith)
@@ -311,14 +311,14 @@ module _ (to : Target) (option : Bool) (p : ℕ) (uid d : List ℕ) (hu : length
   task-given t.Info s v bs z = info-given t.Info v s bs refl z (λ b. refl)
 
 pub label-given : (to : Target) (option : Bool) (task : Task) (p : ℕ) (uid d f : List ℕ) → length uid ≡ 8 → Bytes uid → p < 256 → Bytes f
-    → IsSuccess (readingOf (c.Label to option task p) uid (length d) f)
+    → NoRefusal (readingOf (c.Label to option task p) uid (length d) f)
     → ((code : ℕ) → readingOf (c.Label to option task p) uid (length d) f .meaning ≡ m.Error code → ⊥)
     → LabelGives (encode (c.Label to option task p) uid d) f
 unfolding shapeOf
 label-given to option task p uid d f hu bu hp bs h ne =
     let y = told-right (c.Label to option task p) uid (length d) f bs h in
     let s = content f in
-    let w = plain-success to option task uid s (subst IsSuccess (y .shape) h) (λ code q. ne code (ap (λ (x : Reading). x .meaning) (y .shape) ∙ q)) in
+    let w = plain-success to option task uid s (subst NoRefusal (y .shape) h) (λ code q. ne code (ap (λ (x : Reading). x .meaning) (y .shape) ∙ q)) in
     subst (LabelGives (encode (c.Label to option task p) uid d)) (sym (y .frame))
     (task-given to option p uid d hu bu hp task s (y .fields) (bytes-take (length f - 2) f bs) w)
 
@@ -350,7 +350,7 @@ record Seen (family : Family) (mask bits : ℕ) (s b : List ℕ) : Type 0 where
 abbrev seer : Family → List ℕ → List ℕ
 seer family s = made (part 2 8 s) (getD s 1 0) (familyAfi family) 0 0 0 (0 ∷ [])
 
-seen : (family : Family) (mask bits : ℕ) (s : List ℕ) → RangedFamily family → Bytes s → IsSuccess (foundOf bits mask s) → Seen family mask bits s
+seen : (family : Family) (mask bits : ℕ) (s : List ℕ) → RangedFamily family → Bytes s → NoRefusal (foundOf bits mask s) → Seen family mask bits s
     (seer family s)
 unfolding foundOf takesPart steps.heeds steps.ready label.loadOf
 seen family mask bits s r bs h =
@@ -388,14 +388,14 @@ said-one family bits mask n b s o q =
 
 -- a success read to an Inventory of one slot is one that some well-formed label gives
 pub one-slot-given : (to : Target) (option : Bool) (family : Family) (bits mask : ℕ) (uid d f : List ℕ) → RangedFamily family → Bytes f
-    → IsSuccess (readingOf (c.Inventory to option family false bits mask) uid (length d) f)
+    → NoRefusal (readingOf (c.Inventory to option family false bits mask) uid (length d) f)
     → LabelGives (encode (c.Inventory to option family false bits mask) uid d) f
 unfolding shapeOf
 one-slot-given to option family bits mask uid d f r bs h =
     let command = c.Inventory to option family false bits mask in
     let y = told-right command uid (length d) f bs h in
     let s = content f in
-    let w = seen family mask bits s r (bytes-take (length f - 2) f bs) (subst IsSuccess (y .shape) h) in
+    let w = seen family mask bits s r (bytes-take (length f - 2) f bs) (subst NoRefusal (y .shape) h) in
     let b = seer family s in
     let g = encode command uid d in
     give g b f _ a.Found (w .bytes) (w .ok) (inventory-meant to option family false bits mask uid d (y .fields))
@@ -450,7 +450,7 @@ module _ (to : Target) (option : Bool) (family : Family) (bits mask : ℕ) (uid 
 
 -- a success read to an Inventory of sixteen slots is one that some well-formed label gives, to the frame or in a later slot
 pub sixteen-given : (to : Target) (option : Bool) (family : Family) (bits mask : ℕ) (uid d f : List ℕ) → RangedFamily family → Bytes f
-    → IsSuccess (readingOf (c.Inventory to option family true bits mask) uid (length d) f)
+    → NoRefusal (readingOf (c.Inventory to option family true bits mask) uid (length d) f)
     → LabelGives (encode (c.Inventory to option family true bits mask) uid d) f ⊎ SlotGives (encode (c.Inventory to option family true bits mask) uid d) f
 unfolding shapeOf
 sixteen-given to option family bits mask uid d f r bs h =
@@ -458,7 +458,7 @@ sixteen-given to option family bits mask uid d f r bs h =
     let y = told-right command uid (length d) f bs h in
     let s = content f in
     let b = seer family s in
-    let w = seen family mask bits s r (bytes-take (length f - 2) f bs) (subst IsSuccess (y .shape) h) in
+    let w = seen family mask bits s r (bytes-take (length f - 2) f bs) (subst NoRefusal (y .shape) h) in
     let g = encode command uid d in
     subst (λ (l : List ℕ). LabelGives g l ⊎ SlotGives g l) (sym (y .frame))
     (slot-given to option family bits mask uid d (y .fields) s b w (num (part 0 8 b) / 2 ^ bits % 16) refl)

@@ -110,8 +110,8 @@ unfolding label.saidLabel label.stepped steps.act steps.called labelMeant
 said-given to option task p uid count b = asked to option (getD (parameter (rowOf task) p) 0 0) uid b task count _
 
 -- each of them is read to what it means
-answer-read : (to : Target) (option : Bool) (task : Task) (p q : ℕ) (uid : List ℕ) (n : ℕ) (b : List ℕ) → valid (c.Label to option task p) n ≡ true → LabelFine b
-    → (success : row.Success) (x : Answer) → rowOf task .success ≡ success → Given to option q uid b success x
+answer-read : (to : Target) (option : Bool) (task : Task) (p q : ℕ) (uid : List ℕ) (n : ℕ) (b : List ℕ) → valid (c.Label to option task p) n ≡ true
+    → LabelFine b → (success : row.Success) (x : Answer) → rowOf task .success ≡ success → Given to option q uid b success x
     → readingOf (c.Label to option task p) uid n (answerFrame x b) ≡ labelMeaning x b
 unfolding answerFrame labelMeaning
 answer-read to option task p q uid n b v ok success x e silent = none-read (c.Label to option task p) uid n v

@@ -23,7 +23,7 @@ use Rattle.reader.specs.declared.answer.Meaning.the-variants as m
 use Rattle.reader.specs.declared.answer.Reading.{Reading}
 use Rattle.reader.specs.Command.{valid}
 
--- document 01's number of each meaning: 7, 8 or 9, or 0 for a success
+-- document 01's number of each meaning: 7, 8 or 9, or 0 where nothing is refused
 abbrev pub numberOf : Meaning → ℕ
 numberOf (m.Refused n) = n
 numberOf (m.Error code) = 0

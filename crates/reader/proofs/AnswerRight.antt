@@ -1,4 +1,4 @@
--- A success that is read: its command has a request, its frame is right, and the test that led to it held.
+-- A reading that is no refusal: its command has a request, its frame is right, and the test that led to it held.
 -- Assumes nothing.
 use mathlib.Core.Path.{_≡_, refl, ap, _∙_}
 use mathlib.Core.Bool.{Bool, true, false, not}
@@ -17,13 +17,14 @@ use Rattle.reader.specs.declared.answer.Reading.{Reading}
 use Rattle.reader.specs.Command.{valid}
 use Rattle.reader.specs.Answer.{numberOf, said, fits, shapeOf, readingOf}
 
-abbrev pub IsSuccess : Reading → Type 0
-IsSuccess r = numberOf (r .meaning) ≡ 0
+-- a success or an error
+abbrev pub NoRefusal : Reading → Type 0
+NoRefusal r = numberOf (r .meaning) ≡ 0
 
-pub as-read : (r s : Reading) → r ≡ s → IsSuccess s → IsSuccess r
+pub as-read : (r s : Reading) → r ≡ s → NoRefusal s → NoRefusal r
 as-read r s e h = ap (λ (x : Reading). numberOf (x .meaning)) e ∙ h
 
-pub fits-true : (x : Bool) (r : Reading) → IsSuccess (fits x r) → x ≡ true
+pub fits-true : (x : Bool) (r : Reading) → NoRefusal (fits x r) → x ≡ true
 fits-true true r h = refl
 fits-true false r h = absurd (omega arith)
 
@@ -37,12 +38,12 @@ pub record Right (x : Command) (uid : List ℕ) (n : ℕ) (f : List ℕ) : Type 
   pub frame : f ≡ framed (content f)
   pub shape : readingOf x uid n f ≡ shapeOf x uid (content f)
 
-pub told-right : (x : Command) (uid : List ℕ) (n : ℕ) (f : List ℕ) → Bytes f → IsSuccess (readingOf x uid n f) → Right x uid n f
+pub told-right : (x : Command) (uid : List ℕ) (n : ℕ) (f : List ℕ) → Bytes f → NoRefusal (readingOf x uid n f) → Right x uid n f
 unfolding readingOf
 told-right x uid n f bs h = go (valid x n) (ltb (length f) 3) (right f) refl refl refl h
   where
     go : (p q r : Bool) → valid x n ≡ p → ltb (length f) 3 ≡ q → right f ≡ r
-        → IsSuccess (if not p then said (m.Refused 7) else if q then said (m.Refused 8) else if not r then said (m.Refused 8) else shapeOf x uid (content f))
+        → NoRefusal (if not p then said (m.Refused 7) else if q then said (m.Refused 8) else if not r then said (m.Refused 8) else shapeOf x uid (content f))
         → Right x uid n f
     go false q r e g i z = absurd (omega arith)
     go true true r e g i z = absurd (omega arith)
