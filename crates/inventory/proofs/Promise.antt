@@ -5,7 +5,7 @@ use mathlib.Core.Bool.{Bool, true, false, not}
 use mathlib.Core.List.{List}
 use Prim.Native.Nat.{ℕ, suc, _+_, _*_, _/_, _≤_}
 use native.Mathlib.Omega.{arith}
-use borrow.Author.Tests.{eqb-true, ltb-false, ne-eqb}
+use borrow.Author.Tests.{eqb-true, ltb-false, le-ltb, ne-eqb}
 use lib.Dec.{eqb, ltb}
 use lib.ListN.{length}
 use lib.Seq.{sets}
@@ -17,7 +17,7 @@ use Rattle.rack.specs.File.{countOf, verdictOf}
 use Rattle.rack.specs.Facts.{RackFine}
 use Rattle.inventory.specs.declared.walk.Walked.{Walked}
 use Rattle.inventory.specs.Endings.{count, sumTo, shared}
-use Rattle.inventory.specs.Walk.{Trip, explore, depth, uids, twins, refusalOf, refused, carried, walkOf, cleared}
+use Rattle.inventory.specs.Walk.{Trip, Result, explore, depth, uids, twins, refusalOf, refused, carried, walkOf, cleared}
 use Rattle.inventory.specs.Numbers.{listOf, roundsOf}
 use Rattle.inventory.specs.Promise.{flat, Promise}
 use Rattle.inventory.proofs.EndingsTwice.{Distinct}
@@ -27,7 +27,7 @@ use Rattle.rack.proofs.FileVerdict.{rack-fine}
 use Rattle.inventory.proofs.WalkEvents.{Fine}
 use Rattle.inventory.proofs.WalkUids.{uids-below, some-distinct}
 use Rattle.inventory.proofs.WalkBridge.{branch-list, branch-rounds, told, start-good, cleared-good}
-use Rattle.inventory.proofs.NumbersRepeated.{twins-none}
+use Rattle.inventory.proofs.NumbersRepeated.{twins-none, none-twins}
 
 -- ---- the walk of a well-formed rack without twins
 
@@ -35,6 +35,7 @@ pub record Done (family : Family) (r : List ℕ) (t : Trip) : Type 0 where
   pub listed : List ℕ
   pub bytes : t .found ≡ flat listed
   pub lists : (v : ℕ) → count v listed ≡ count v (uids family r)
+  pub once : Distinct listed
   pub size : length (t .found) ≡ 8 * length (uids family r)
   pub counts : t .rounds ≡ 1 + sumTo 15 (λ i. length (shared (4 * suc i) (uids family r)))
   pub bound : t .rounds ≤ 1 + 15 * (length (uids family r) / 2)
@@ -54,6 +55,7 @@ done r fine family alone =
       listed = listing 4 15 0 0 us;
       bytes = t .found;
       lists = λ v. lists-each us b d v;
+      once = λ v. rw (lists-each us b d v) (d v);
       size = ap length (t .found) ∙ flat-length (listing 4 15 0 0 us) ∙ ap (λ (n : ℕ). 8 * n) (as-long us b d);
       counts = t .rounds ∙ rounds-16 us;
       bound = rw (t .rounds) (rounds-16-bound us);
@@ -79,6 +81,11 @@ accepted r room = go (eqb (verdictOf r .number) 0) refl (ltb room (8 * countOf r
     go true e false f true g z = absurd (omega (arith, z))
     go true e true f t g z = absurd (omega (arith, z))
     go false e q f t g z = absurd (omega (arith, z))
+
+-- the three premises of demand 3 are that none applies
+unrefused : (r : List ℕ) (room : ℕ) → verdictOf r .number ≡ 0 → 8 * countOf r ≤ room → Distinct (uids Any r) → refusalOf r room ≡ 0
+unfolding refusalOf
+unrefused r room well roomy alone = rw (well, le-ltb room (8 * countOf r) roomy, none-twins r alone) refl
 
 walk-number : (r : List ℕ) (family : Family) (list : List ℕ) → walkOf r family list .report .number ≡ 0 → refusalOf r (length list) ≡ 0
 unfolding walkOf
@@ -111,12 +118,22 @@ promise r small family list h =
     (record {
       listed = p .listed;
       lists = p .lists;
+      once = p .once;
       written = ap (sets list 0) (p .bytes);
       labels = omega (arith, p .size);
       counts = p .counts;
       bound = p .bound;
       leaves = p .leaves;
     })
+
+-- Demand 3 in its own words: well-formed, room for the list, and no two labels in state 1 or 3 share a UID.
+pub demand-3 : (r : List ℕ) → Bytes r → (family : Family) (list : List ℕ)
+    → verdictOf r .number ≡ 0 → 8 * countOf r ≤ length list → ((v : ℕ) → count v (uids Any r) ≤ 1)
+    → (walkOf r family list .report .number ≡ 0)
+    × Promise family r (walkOf r family list .rack) list (walkOf r family list .list) (walkOf r family list .report)
+demand-3 r small family list well roomy alone =
+    let h = ap (λ (x : Result). x .report .number) (walk-carried r family list (unrefused r (length list) well roomy alone)) in
+    (h, promise r small family list h)
 
 -- ---- the reply of the call
 

@@ -17,9 +17,10 @@ flat (u ∷ us) = bytesOf 8 u ++ flat us
 
 -- family, rack before and after, list before and after, report
 pub record Promise (family : Family) (r r₁ list list₁ : List ℕ) (w : Walked) : Type 0 where
-  -- the UIDs listed: each as often as the rack has it, and no other
+  -- the UIDs listed: those of the labels that answer, and no other; each once
   pub listed : List ℕ
   pub lists : (v : ℕ) → count v listed ≡ count v (uids family r)
+  pub once : (v : ℕ) → count v listed ≤ 1
   pub written : list₁ ≡ sets list 0 (flat listed)
   pub labels : w .labels ≡ length (uids family r)
   -- one round, and one for each different ending of 4, 8, .. 60 bits that two or more of them share
