@@ -1,6 +1,6 @@
 -- How many values of a list stand there twice or more. Idea: `shared` is easy to believe and `twice` to induct on; both have each value once (`pigeons`).
 -- Assumes nothing.
-use mathlib.Core.Path.{_≡_, refl, sym, _∙_}
+use mathlib.Core.Path.{_≡_, refl, ap, sym, _∙_}
 use mathlib.Core.List.{List, [], _∷_, map}
 use mathlib.Core.Bool.{Bool, true, false}
 use Prim.Native.Nat.{ℕ, zero, suc, _+_, _*_, _≤_, _<_}
@@ -29,7 +29,7 @@ one-true : (b : Bool) → 0 < one b → b ≡ true
 one-true true h = refl
 one-true false h = absurd (omega arith)
 
-pub eqb-comm : (a b : ℕ) → eqb a b ≡ eqb b a
+eqb-comm : (a b : ℕ) → eqb a b ≡ eqb b a
 eqb-comm a b = go (eqb b a) refl
   where
     go : (q : Bool) → eqb b a ≡ q → eqb a b ≡ q
@@ -146,6 +146,23 @@ twice-distinct ys v = rw (count-twice v ys) (one-le (leb 2 (count v ys)))
 pub twice-half : (ys : List ℕ) → 2 * length (twice ys) ≤ length ys
 twice-half ys = pigeons 2 (twice ys) ys (twice-distinct ys)
     (λ d m. leb-true 2 (count d ys) (one-true (leb 2 (count d ys)) (rw (count-twice d ys) at m)))
+
+-- where there is one, some value stands there twice or more, and so the other way
+pub twice-found : (ys : List ℕ) → 1 ≤ length (twice ys) → (v : ℕ) × (2 ≤ count v ys)
+twice-found ys = go (twice ys) refl
+  where
+    go : (zs : List ℕ) → twice ys ≡ zs → 1 ≤ length zs → (v : ℕ) × (2 ≤ count v ys)
+    go [] e h = absurd (omega arith)
+    go (v ∷ zs) e h =
+        let c : 0 < one (leb 2 (count v ys)) = rw (← count-twice v ys, e, eq-eqb v v refl) (omega arith) in
+        (v, leb-true 2 (count v ys) (one-true (leb 2 (count v ys)) c))
+
+count-le : (v : ℕ) (ys : List ℕ) → count v ys ≤ length ys
+count-le v [] = omega arith
+count-le v (y ∷ ys) = omega (arith, one-le (eqb v y), count-le v ys)
+
+pub found-twice : (ys : List ℕ) (v : ℕ) → 2 ≤ count v ys → 1 ≤ length (twice ys)
+found-twice ys v h = omega (arith, count-le v (twice ys), count-twice v ys, ap one (le-leb 2 (count v ys) h))
 
 pub same-values : (a b : List ℕ) → Distinct a → ((v : ℕ) → count v a ≡ count v b) → length a ≤ length b
 same-values a b h e = omega (arith, pigeons 1 a b h (λ d m. omega (arith, e d)))

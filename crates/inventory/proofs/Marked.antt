@@ -24,7 +24,7 @@ use Rattle.request.specs.declared.label.Family.{Family}
 use Rattle.request.specs.declared.label.Family.the-variants.{Any}
 use Rattle.rack.specs.File.{startOf, kindOf, headVerdict, lengthFits, entryVerdict, bodyRules, moved, bodyVerdict, endVerdict, verdictOf}
 use Rattle.inventory.specs.Endings.{count, keepIf, keep, different, ending, sumTo, shared}
-use Rattle.inventory.specs.Walk.{uidAt, uidsTo, uids, anyOf, twins, refusalOf, walkOf}
+use Rattle.inventory.specs.Walk.{uidAt, uidsTo, uids, twins, refusalOf, walkOf}
 use Rattle.inventory.proofs.EndingsSums.{sum-ext}
 use Rattle.inventory.proofs.Promise.{walk-carried, promise}
 
@@ -92,7 +92,7 @@ uids-k = refl
 
 pub accepts-k : refusalOf rack-k 16 ≡ 0
 unfolding refusalOf verdictOf headVerdict entryVerdict kindOf lengthFits bodyVerdict bodyRules moved endVerdict labelRules headRules lockRoom
-    locksVerdict slotRules maskVerdict over byteVerdict firstOf twins anyOf uidsTo uidAt takesPart heeds ready loadOf passes gather startOf
+    locksVerdict slotRules maskVerdict over byteVerdict firstOf twins uidsTo uidAt takesPart heeds ready loadOf passes gather startOf
 accepts-k = refl
 
 abbrev rack-l : List ℕ
@@ -103,7 +103,7 @@ unfolding uidsTo gather
 uids-l = refl
 
 pub accepts-l : refusalOf rack-l 0 ≡ 0
-unfolding refusalOf verdictOf headVerdict endVerdict firstOf twins anyOf startOf
+unfolding refusalOf verdictOf headVerdict endVerdict firstOf twins uidsTo gather startOf
 accepts-l = refl
 
 abbrev small : List ℕ → Bool

@@ -1,27 +1,26 @@
 -- UIDs that stand twice: the laws of the search for them, and that two labels have one UID exactly where a UID stands twice among those gathered.
--- Idea: `twins` looks back from each tag and `repeated` looks on from each UID; both grow by one UID at the end (`repeated-more`). Assumes nothing.
+-- Idea: UIDs of 64 bits are their own endings of 64 bits; `twins` and `repeated` are both false exactly where they are distinct. Assumes nothing.
 use mathlib.Core.Path.{_≡_, refl, ap, sym, _∙_}
-use mathlib.Core.Bool.{Bool, true, false, _||_}
-use mathlib.Core.List.{List, [], _∷_, _++_, append-nil}
-use Prim.Native.Nat.{ℕ, zero, suc, _+_, _-_, _≤_, _<_}
-use native.Mathlib.Nat.{add-zero, zero-add}
+use mathlib.Core.Logic.{⊎-elim}
+use mathlib.Core.Bool.{Bool, true, false, _||_, false≢true}
+use mathlib.Core.List.{List, [], _∷_, map}
+use Prim.Native.Nat.{ℕ, suc, _+_, _-_, _≤_, _<_}
+use native.Mathlib.Nat.{mod-eq-of-lt}
 use native.Mathlib.Numerals.{add-one}
 use native.Mathlib.Omega.{arith}
-use borrow.Author.Tests.{eq-eqb, ne-eqb, eqb-true, le-leb, lt-leb, leb-false}
+use borrow.Author.Tests.{eq-eqb, ne-eqb, eqb-true, le-leb, lt-leb, leb-true, leb-false}
 use lib.Dec.{eqb, leb}
 use lib.ListN.{length, getD, take, drop, length-drop, drop-of-length-le}
 use lib.Seq.{drop-cons, take-all}
-use Rattle.frame.specs.Choose.{gather}
-use Rattle.frame.proofs.Bools.{or-off, if-both}
-use Rattle.label.specs.Slots.{uidOf, takesPart}
+use Rattle.frame.proofs.Bools.{or-off, below-or-not}
 use Rattle.request.specs.declared.label.Family.the-variants.{Any}
-use Rattle.rack.specs.File.{Kind, Label, Chip, Other}
-use Rattle.rack.specs.File.{countOf, kindAt, bodyAt}
-use Rattle.inventory.specs.Endings.{one, count}
-use Rattle.inventory.specs.Walk.{uidAt, uidsTo, uids, anyOf, among, twins}
+use Rattle.inventory.specs.Endings.{one, count, ending}
+use Rattle.inventory.specs.Walk.{uids, twins}
 use Rattle.inventory.specs.Numbers.{repeated}
-use Rattle.inventory.proofs.EndingsTwice.{Distinct, eqb-comm}
-use Rattle.inventory.proofs.EndingsWalks.{count-append}
+use Rattle.inventory.proofs.EndingsTwice.{Distinct, twice, twice-found, found-twice, shared-twice}
+use Rattle.inventory.proofs.EndingsWalks.{Below}
+use Rattle.inventory.proofs.WalkEvents.{Fine}
+use Rattle.inventory.proofs.WalkUids.{uids-below}
 
 -- ---- a UID sought among others: it is not one of the first i
 
@@ -76,70 +75,7 @@ module _ {us : List ℕ} {i : ℕ} (k : Comparing us i) where
   unfolding repeated
   comparing-done h = sym (sym (k .ahead) ∙ ap repeated (drop-of-length-le us {i = i} h))
 
--- ---- one UID more
-
-leb-or : (a b : ℕ) → leb 1 (a + b) ≡ (leb 1 a || leb 1 b)
-leb-or zero b = ap (leb 1) (zero-add b)
-leb-or (suc a) b = rw (le-leb 1 (suc a) (omega arith), le-leb 1 (suc a + b) (omega arith))
-
-one-leb : (q : Bool) → leb 1 (one q) ≡ q
-one-leb true = refl
-one-leb false = refl
-
--- is v in front of us, or among them?
-among-more : (v x : ℕ) (us : List ℕ) → leb 1 (count v (x ∷ us)) ≡ (eqb v x || leb 1 (count v us))
-among-more v x us = leb-or (one (eqb v x)) (count v us) ∙ ap (λ (q : Bool). q || leb 1 (count v us)) (one-leb (eqb v x))
-
--- or behind them?
-among-last : (v : ℕ) (us : List ℕ) (x : ℕ) → leb 1 (count v (us ++ (x ∷ []))) ≡ (leb 1 (count v us) || eqb v x)
-among-last v us x =
-    ap (leb 1) (count-append v us (x ∷ [])) ∙ leb-or (count v us) (count v (x ∷ []))
-    ∙ ap (λ (q : Bool). leb 1 (count v us) || q) (ap (leb 1) (add-zero (one (eqb v x))) ∙ one-leb (eqb v x))
-
-repeated-one : (us : List ℕ) (u : ℕ) → repeated (us ++ (u ∷ [])) ≡ (repeated us || leb 1 (count u us))
-unfolding repeated
-repeated-one [] u = refl
-repeated-one (x ∷ us) u =
-    ap (λ (q : Bool). leb 1 (count x (us ++ (u ∷ []))) || q) (repeated-one us u)
-    ∙ ap (λ (q : Bool). q || (repeated us || leb 1 (count u us))) (among-last x us u)
-    ∙ order (leb 1 (count x us)) (eqb x u) (repeated us) (leb 1 (count u us))
-    ∙ ap (λ (q : Bool). (leb 1 (count x us) || repeated us) || (q || leb 1 (count u us))) (eqb-comm x u)
-    ∙ ap (λ (q : Bool). (leb 1 (count x us) || repeated us) || q) (sym (among-more u x us))
-  where
-    order : (a b c d : Bool) → ((a || b) || (c || d)) ≡ ((a || c) || (b || d))
-    order true b c d = refl
-    order false true true d = refl
-    order false true false d = refl
-    order false false true d = refl
-    order false false false d = refl
-
-repeated-same : (us : List ℕ) → repeated (us ++ []) ≡ (repeated us || false)
-repeated-same us = ap repeated (append-nil us) ∙ or-none (repeated us)
-  where
-    or-none : (q : Bool) → q ≡ (q || false)
-    or-none true = refl
-    or-none false = refl
-
-repeated-more : (us : List ℕ) (kind : Kind) (b : List ℕ) → repeated (us ++ uidAt Any kind b) ≡ (repeated us || among (uidAt Any kind b) us)
-unfolding uidAt
-repeated-more us Label b =
-    if-both (λ vs. repeated (us ++ vs) ≡ (repeated us || among vs us)) (takesPart Any b) (repeated-one us (uidOf b)) (repeated-same us)
-repeated-more us Chip b = repeated-same us
-repeated-more us Other b = repeated-same us
-
-twins-to : (r : List ℕ) (n : ℕ) → anyOf n (λ i. among (uidAt Any (kindAt r i) (bodyAt r i)) (uidsTo Any r i)) ≡ repeated (uidsTo Any r n)
-unfolding anyOf uidsTo gather repeated
-twins-to r zero = refl
-twins-to r (suc n) =
-    ap (λ (q : Bool). q || among (uidAt Any (kindAt r n) (bodyAt r n)) (uidsTo Any r n)) (twins-to r n)
-    ∙ sym (repeated-more (uidsTo Any r n) (kindAt r n) (bodyAt r n))
-
--- two labels in state 1 or 3 have one UID exactly where one of their UIDs stands twice
-pub twins-repeated : (r : List ℕ) → twins r ≡ repeated (uids Any r)
-unfolding twins
-twins-repeated r = twins-to r (countOf r)
-
--- ---- and exactly where they are not distinct
+-- ---- none is found exactly where they are distinct
 
 repeated-none : (us : List ℕ) → repeated us ≡ false → Distinct us
 unfolding repeated
@@ -159,8 +95,46 @@ none-repeated (x ∷ us) d =
     let c : count x us < 1 = omega (arith, d x, ap one (eq-eqb x x refl)) in
     rw (lt-leb 1 (count x us) c) (none-repeated us (λ v. omega (arith, d v)))
 
-pub twins-none : (r : List ℕ) → twins r ≡ false → Distinct (uids Any r)
-twins-none r h = repeated-none (uids Any r) (sym (twins-repeated r) ∙ h)
+-- ---- two labels in state 1 or 3 have one UID
 
-pub none-twins : (r : List ℕ) → Distinct (uids Any r) → twins r ≡ false
-none-twins r d = twins-repeated r ∙ none-repeated (uids Any r) d
+whole : (us : List ℕ) → Below 64 us → map (ending 64) us ≡ us
+whole [] b = refl
+whole (u ∷ us) b = rw (mod-eq-of-lt (b .0), whole us (b .1))
+
+module _ (r : List ℕ) (fine : Fine r) where
+  as-twice : twins r ≡ leb 1 (length (twice (uids Any r)))
+  unfolding twins
+  as-twice = ap (leb 1) (shared-twice 64 (uids Any r) ∙ ap (λ (us : List ℕ). length (twice us)) (whole (uids Any r) (uids-below r fine Any)))
+
+  -- true exactly where a UID stands twice among theirs
+  pub twins-two : twins r ≡ true → (v : ℕ) × (2 ≤ count v (uids Any r))
+  twins-two h = twice-found (uids Any r) (leb-true 1 (length (twice (uids Any r))) (sym as-twice ∙ h))
+
+  pub two-twins : (v : ℕ) → 2 ≤ count v (uids Any r) → twins r ≡ true
+  two-twins v h = as-twice ∙ le-leb 1 (length (twice (uids Any r))) (found-twice (uids Any r) v h)
+
+  -- and false exactly where none does
+  pub twins-none : twins r ≡ false → Distinct (uids Any r)
+  twins-none h v = ⊎-elim
+      (λ (b : count v (uids Any r) < 2). omega arith)
+      (λ (b : 2 ≤ count v (uids Any r)). absurd (false≢true (sym h ∙ two-twins v b)))
+      (below-or-not (count v (uids Any r)) 2)
+
+  pub none-twins : Distinct (uids Any r) → twins r ≡ false
+  none-twins d = go (twins r) refl
+    where
+      go : (t : Bool) → twins r ≡ t → t ≡ false
+      go true e = let p = twins-two e in absurd (omega (arith, p .1, d (p .0)))
+      go false e = refl
+
+  -- so it is what the search among the UIDs gathered finds
+  pub twins-repeated : twins r ≡ repeated (uids Any r)
+  twins-repeated = go (repeated (uids Any r)) refl
+    where
+      go : (q : Bool) → repeated (uids Any r) ≡ q → twins r ≡ q
+      go true e = still (twins r) refl
+        where
+          still : (t : Bool) → twins r ≡ t → t ≡ true
+          still true f = refl
+          still false f = absurd (false≢true (sym (none-repeated (uids Any r) (twins-none f)) ∙ e))
+      go false e = none-twins (repeated-none (uids Any r) e)

@@ -83,9 +83,10 @@ accepted r room = go (eqb (verdictOf r .number) 0) refl (ltb room (8 * countOf r
     go false e q f t g z = absurd (omega (arith, z))
 
 -- the three premises of demand 3 are that none applies
-unrefused : (r : List ℕ) (room : ℕ) → verdictOf r .number ≡ 0 → 8 * countOf r ≤ room → Distinct (uids Any r) → refusalOf r room ≡ 0
+unrefused : (r : List ℕ) (room : ℕ) → Bytes r → verdictOf r .number ≡ 0 → 8 * countOf r ≤ room → Distinct (uids Any r) → refusalOf r room ≡ 0
 unfolding refusalOf
-unrefused r room well roomy alone = rw (well, le-ltb room (8 * countOf r) roomy, none-twins r alone) refl
+unrefused r room small well roomy alone =
+    rw (well, le-ltb room (8 * countOf r) roomy, none-twins r (record { rack = rack-fine r well; bytes = small }) alone) refl
 
 walk-number : (r : List ℕ) (family : Family) (list : List ℕ) → walkOf r family list .report .number ≡ 0 → refusalOf r (length list) ≡ 0
 unfolding walkOf
@@ -113,7 +114,8 @@ pub promise : (r : List ℕ) → Bytes r → (family : Family) (list : List ℕ)
 promise r small family list h =
     let n = walk-number r family list h in
     let a = accepted r (length list) n in
-    let p = done r (record { rack = a .fine; bytes = small }) family (twins-none r (a .single)) in
+    let fine : Fine r = record { rack = a .fine; bytes = small } in
+    let p = done r fine family (twins-none r fine (a .single)) in
     rw (walk-carried r family list n)
     (record {
       listed = p .listed;
@@ -132,7 +134,7 @@ pub demand-3 : (r : List ℕ) → Bytes r → (family : Family) (list : List ℕ
     → (walkOf r family list .report .number ≡ 0)
     × Promise family r (walkOf r family list .rack) list (walkOf r family list .list) (walkOf r family list .report)
 demand-3 r small family list well roomy alone =
-    let h = ap (λ (x : Result). x .report .number) (walk-carried r family list (unrefused r (length list) well roomy alone)) in
+    let h = ap (λ (x : Result). x .report .number) (walk-carried r family list (unrefused r (length list) small well roomy alone)) in
     (h, promise r small family list h)
 
 -- ---- the reply of the call

@@ -19,6 +19,7 @@ use Rattle.inventory.specs.declared.walk.Walked.{Walked}
 use Rattle.inventory.specs.Walk.{explore, depth, uids, twins, refusalOf, walkOf, cleared}
 use Rattle.inventory.specs.Numbers.{First, repeated, listOf, roundsOf}
 use Rattle.inventory.specs.Promise.{flat, Promise}
+use Rattle.inventory.proofs.WalkEvents.{Fine}
 use Rattle.inventory.proofs.WalkUids.{uids-few}
 use Rattle.rack.proofs.FileVerdict.{rack-fine}
 use Rattle.inventory.proofs.NumbersRepeated.{twins-repeated, twins-none}
@@ -54,12 +55,13 @@ module _ (r : List ℕ) (room : ℕ) (family : Family) {v : Verdict} (is : v ≡
       unfolding refusalOf
       begins-short b = let s : room < 8 * countOf r = omega (arith, e) in refuses (omega arith) (rw (none, lt-ltb room (8 * countOf r) s) refl)
 
-      module _ (b : 8 * n ≤ room) {us₀ : List ℕ} {all : ℕ} (first : First (uids Any r) us₀ all) {t : Bool} (f : t ≡ repeated (take (all - 0) us₀)) where
+      module _ (small : Bytes r) (b : 8 * n ≤ room)
+          {us₀ : List ℕ} {all : ℕ} (first : First (uids Any r) us₀ all) {t : Bool} (f : t ≡ repeated (take (all - 0) us₀)) where
         long : 8 * countOf r ≤ room
         long = omega (arith, e)
 
         same : t ≡ twins r
-        same = f ∙ ap repeated (first-part first) ∙ sym (twins-repeated r)
+        same = f ∙ ap repeated (first-part first) ∙ sym (twins-repeated r (record { rack = begins-fine; bytes = small }))
 
         pub begins-twins : {us : List ℕ} {labels : ℕ} → t ≡ true → Begins 6 us labels
         unfolding refusalOf
@@ -91,7 +93,7 @@ module _ (r : List ℕ) (small : Bytes r) (family : Family) (list : List ℕ) wh
     ok = accepted r (length list) (sym e ∙ h)
 
     walked : Done family r (explore (depth 0) r family 0 0)
-    walked = done r (record { rack = ok .fine; bytes = small }) family (twins-none r (ok .single))
+    walked = let fine : Fine r = record { rack = ok .fine; bytes = small } in done r fine family (twins-none r fine (ok .single))
 
     pub call-fine : RackFine r
     call-fine = ok .fine

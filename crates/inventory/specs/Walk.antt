@@ -1,5 +1,5 @@
 -- Document 01, "Walk": the events sent to the rack in turn, and what the walk makes of their replies. Assumes nothing.
-use mathlib.Core.Bool.{Bool, true, false, not, _||_}
+use mathlib.Core.Bool.{Bool, true, false, not}
 use mathlib.Core.List.{List, [], _∷_, _++_}
 use Prim.Native.Nat.{ℕ, zero, suc, _+_, _-_, _*_, _/_}
 use lib.Dec.{eqb, ltb, leb}
@@ -16,7 +16,7 @@ use Rattle.rack.specs.File.{Kind, Label, Chip, Other}
 use Rattle.rack.specs.File.{countOf, kindAt, bodyAt, rebuilt, verdictOf}
 use Rattle.rack.specs.Event.{Outcome, least, eventOf}
 use Rattle.inventory.specs.declared.walk.Walked.{Walked}
-use Rattle.inventory.specs.Endings.{count}
+use Rattle.inventory.specs.Endings.{shared}
 
 -- ---- a round is one sixteen-slot Inventory and sixteen ends of frame
 
@@ -106,18 +106,9 @@ uidsTo family r n = gather n (λ i. uidAt family (kindAt r i) (bodyAt r i))
 abbrev pub uids : Family → List ℕ → List ℕ
 uids family r = uidsTo family r (countOf r)
 
--- does one of f 0, f 1, .., f (n - 1) hold?
-unfoldable pub anyOf : ℕ → (ℕ → Bool) → Bool
-anyOf zero f = false
-anyOf (suc n) f = anyOf n f || f n
-
-abbrev pub among : List ℕ → List ℕ → Bool
-among [] seen = false
-among (u ∷ us) seen = leb 1 (count u seen)
-
--- two labels in state 1 or 3 have one UID: one of the tags has the UID of one before it
+-- two labels in state 1 or 3 have one UID: some ending of all 64 bits is shared
 unfoldable pub twins : List ℕ → Bool
-twins r = anyOf (countOf r) (λ i. among (uidAt Any (kindAt r i) (bodyAt r i)) (uidsTo Any r i))
+twins r = leb 1 (length (shared 64 (uids Any r)))
 
 -- the lowest number that applies, for so much room in the list; 0: none
 unfoldable pub refusalOf : List ℕ → ℕ → ℕ

@@ -38,9 +38,10 @@ returns-3 : tie.Need-returns-3
 returns-3 c =
     let q = c .before .before .before .before .before .before in
     let p = q .before .before .before in
-    let s = p .before .before .before .before .before .before in
+    let k = p .before .before .before .before .before in
+    let s = k .before in
     begins-twins (s .args .rack .now) (s .args .room) (s .args .family) (p .before .before .before .judge .ensures) (p .before .if1 .left) (p .count .ensures)
-    (q .before .before .if2 .left)
+    (λ i. k .shared-slice-known .given i .fits) (q .before .before .if2 .left)
     (q .collect .ensures) (c .before .has-twins .ensures) (c .if3 .taken)
 
 narrow-requires : tie.Need-narrow-requires
@@ -57,9 +58,10 @@ returns-4 c =
     let o = c .before .before .before .before in
     let q = o .before .before .before .before .before .before in
     let p = q .before .before .before in
-    let s = p .before .before .before .before .before .before in
+    let k = p .before .before .before .before .before in
+    let s = k .before in
     begins-ready (s .args .rack .now) (s .args .room) (s .args .family) (p .before .before .before .judge .ensures) (p .before .if1 .left) (p .count .ensures)
-    (q .before .before .if2 .left)
+    (λ i. k .shared-slice-known .given i .fits) (q .before .before .if2 .left)
     (q .collect .ensures) (o .before .has-twins .ensures) (o .if3 .left) (c .before .before .narrow .ensures)
 
 pub begin-spec : {M : Type 1} → statement M
