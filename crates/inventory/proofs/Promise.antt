@@ -19,7 +19,7 @@ use Rattle.inventory.specs.declared.walk.Walked.{Walked}
 use Rattle.inventory.specs.Endings.{count, sumTo, shared}
 use Rattle.inventory.specs.Walk.{Trip, Result, explore, depth, uids, twins, refusalOf, refused, carried, walkOf, cleared}
 use Rattle.inventory.specs.Numbers.{listOf, roundsOf}
-use Rattle.inventory.specs.Promise.{flat, Promise}
+use Rattle.inventory.specs.Promise.{flat, Promise, Reply}
 use Rattle.inventory.proofs.EndingsTwice.{Distinct}
 use Rattle.inventory.proofs.EndingsWalks.{all-end, listing, lists-each, as-long, rounds-16, rounds-16-bound}
 use Rattle.inventory.proofs.PromiseFlat.{flat-length}
@@ -139,15 +139,9 @@ demand-3 r small family list well roomy alone =
 
 -- ---- the reply of the call
 
-pub record Reply (family : Family) (r r₁ list list₁ : List ℕ) (w : Walked) : Type 0 where
-  pub report : w ≡ walkOf r family list .report
-  pub rack : r₁ ≡ walkOf r family list .rack
-  pub written : list₁ ≡ walkOf r family list .list
-  pub promised : w .number ≡ 0 → Promise family r r₁ list list₁ w
-
-pub replies : (family : Family) (r r₁ list list₁ : List ℕ) (w : Walked) → Bytes r
+pub replies : (r : List ℕ) → Bytes r → (family : Family) (list : List ℕ) {r₁ list₁ : List ℕ} {w : Walked}
     → w ≡ walkOf r family list .report → r₁ ≡ walkOf r family list .rack → list₁ ≡ walkOf r family list .list → Reply family r r₁ list list₁ w
-replies family r r₁ list list₁ w small p q l =
+replies r small family list p q l =
     record { report = p; rack = q; written = l; promised = λ z. rw (p, q, l) (promise r small family list (rw p at z)) }
 
 -- Two replies that meet the statement are equal.

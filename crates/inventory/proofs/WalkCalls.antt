@@ -16,9 +16,9 @@ use Rattle.request.specs.declared.label.Family.the-variants.{Any}
 use Rattle.rack.specs.File.{countOf, verdictOf}
 use Rattle.rack.specs.Facts.{RackFine}
 use Rattle.inventory.specs.declared.walk.Walked.{Walked}
-use Rattle.inventory.specs.Walk.{explore, depth, uids, twins, refusalOf, walkOf, cleared}
+use Rattle.inventory.specs.Walk.{explore, depth, uids, twins, refusalOf, cleared}
 use Rattle.inventory.specs.Numbers.{First, repeated, listOf, roundsOf}
-use Rattle.inventory.specs.Promise.{flat, Promise}
+use Rattle.inventory.specs.Promise.{flat, Reply}
 use Rattle.inventory.proofs.WalkEvents.{Fine}
 use Rattle.inventory.proofs.WalkUids.{uids-few}
 use Rattle.rack.proofs.FileVerdict.{rack-fine}
@@ -74,19 +74,10 @@ module _ (r : List ℕ) (room : ℕ) (family : Family) {v : Verdict} (is : v ≡
 -- ---- the walk
 
 module _ (r : List ℕ) (small : Bytes r) (family : Family) (list : List ℕ) where
-  abbrev Replied : Walked → List ℕ → List ℕ → Type 0
-  Replied w r₁ list₁ =
-      (w ≡ walkOf r family list .report)
-      × ((r₁ ≡ walkOf r family list .rack) × ((list₁ ≡ walkOf r family list .list) × (w .number ≡ 0 → Promise family r r₁ list list₁ w)))
-
-  reply : {w : Walked} {r₁ list₁ : List ℕ} → w ≡ walkOf r family list .report → r₁ ≡ walkOf r family list .rack → list₁ ≡ walkOf r family list .list
-      → Replied w r₁ list₁
-  reply {w} {r₁} {list₁} p q l = (p, (q, (l, replies family r r₁ list list₁ w small p q l .promised)))
-
-  pub call-refused : {n : ℕ} → n ≡ refusalOf r (length list) → (n ≡ 0 → ⊥) → Replied (record { number = n; labels = 0; rounds = 0 }) r list
+  pub call-refused : {n : ℕ} → n ≡ refusalOf r (length list) → (n ≡ 0 → ⊥) → Reply family r r list list (record { number = n; labels = 0; rounds = 0 })
   call-refused {n} e h =
       let x = walk-refused r family list (λ z. h (e ∙ z)) in
-      reply (rw (x, ← e) refl) (rw x refl) (rw x refl)
+      replies r small family list (rw (x, ← e) refl) (rw x refl) (rw x refl)
 
   module _ {n : ℕ} (e : n ≡ refusalOf r (length list)) (h : n ≡ 0) where
     ok : Accepted r (length list)
@@ -113,10 +104,10 @@ module _ (r : List ℕ) (small : Bytes r) (family : Family) (list : List ℕ) wh
       pub call-walked : {r₁ list₁ : List ℕ} {c k : ℕ} → r₁ ≡ cleared r
           → (list₁ ≡ sets list 0 (flat (listOf (depth 0) 0 (take (labels - 0) us))))
           × ((c ≡ 0 + length (flat (listOf (depth 0) 0 (take (labels - 0) us)))) × (k ≡ roundsOf (depth 0) 0 (take (labels - 0) us)))
-          → Replied (record { number = 0; labels = c / 8; rounds = k }) r₁ list₁
+          → Reply family r r₁ list list₁ (record { number = 0; labels = c / 8; rounds = k })
       call-walked {r₁} {list₁} {c} {k} p told =
           let x = walk-carried r family list (sym e ∙ h) in
           let t = rw (first-part first) at told in
           let z : c ≡ length (explore (depth 0) r family 0 0 .found) = t .1 .0 ∙ zero-add _ ∙ ap length (sym (walked .branches)) in
           let y : k ≡ explore (depth 0) r family 0 0 .rounds = t .1 .1 ∙ sym (walked .trips) in
-          reply (rw (x, z, y) refl) (rw x (p ∙ sym (walked .leaves))) (rw x (t .0 ∙ ap (sets list 0) (sym (walked .branches))))
+          replies r small family list (rw (x, z, y) refl) (rw x (p ∙ sym (walked .leaves))) (rw x (t .0 ∙ ap (sets list 0) (sym (walked .branches))))

@@ -1,4 +1,4 @@
--- Demand 3: what a walk that is not refused promises, counted from the UIDs and from no run. Assumes nothing.
+-- Demand 3: what a walk that is not refused promises, counted from the UIDs and from no run; and what the call replies. Assumes nothing.
 use mathlib.Core.Path.{_≡_}
 use mathlib.Core.List.{List, [], _∷_, _++_}
 use Prim.Native.Nat.{ℕ, suc, _+_, _*_, _/_, _≤_}
@@ -8,7 +8,7 @@ use Rattle.frame.specs.Number.{bytesOf}
 use Rattle.request.specs.declared.label.Family.{Family}
 use Rattle.inventory.specs.declared.walk.Walked.{Walked}
 use Rattle.inventory.specs.Endings.{count, sumTo, shared}
-use Rattle.inventory.specs.Walk.{uids, cleared}
+use Rattle.inventory.specs.Walk.{uids, walkOf, cleared}
 
 -- eight bytes a UID, least significant byte first
 unfoldable pub flat : List ℕ → List ℕ
@@ -28,3 +28,10 @@ pub record Promise (family : Family) (r r₁ list list₁ : List ℕ) (w : Walke
   pub bound : w .rounds ≤ 1 + 15 * (length (uids family r) / 2)
   -- all slots and masks are cleared and nothing else has changed
   pub leaves : r₁ ≡ cleared r
+
+-- the call's reply is that of the events sent in turn, and where no refusal applies it keeps the promise
+pub record Reply (family : Family) (r r₁ list list₁ : List ℕ) (w : Walked) : Type 0 where
+  pub report : w ≡ walkOf r family list .report
+  pub rack : r₁ ≡ walkOf r family list .rack
+  pub written : list₁ ≡ walkOf r family list .list
+  pub promised : w .number ≡ 0 → Promise family r r₁ list list₁ w

@@ -12,9 +12,9 @@ ghost use mathlib.Core.Path.{_≡_};
 ghost use Prim.Native.Nat.{_+_, _≤_, _<_, _^_};
 ghost use lib.ListN.{length};
 ghost use lib.Seq.{sets};
-ghost use Rattle.inventory.specs.Walk.{depth, refusalOf, walkOf, uids};
+ghost use Rattle.inventory.specs.Walk.{depth, refusalOf, uids};
 ghost use Rattle.inventory.specs.Numbers.{First, listOf, roundsOf};
-ghost use Rattle.inventory.specs.Promise.{flat, Promise};
+ghost use Rattle.inventory.specs.Promise.{flat, Reply};
 
 // What a walk comes back with: the refusal's number or 0, how many labels the list holds, how many rounds it took.
 #[repr(C)]
@@ -99,10 +99,7 @@ fn begin(rack: &[u8], family: Family, room: usize, us: &mut [u64]) -> Begun
 
 // Walks a rack: lists every label in state 1 or 3 that the family lets answer.
 pub fn walk(rack: &mut [u8], family: Family, list: &mut [u8]) -> Walked
-    ensures { λ r. ⌜ r ≡ walkOf (now (rack .entry)) family (now (list .entry)) .report ⌝ }
-    ensures { λ _. ⌜ now (rack .exit) ≡ walkOf (now (rack .entry)) family (now (list .entry)) .rack ⌝ }
-    ensures { λ _. ⌜ now (list .exit) ≡ walkOf (now (rack .entry)) family (now (list .entry)) .list ⌝ }
-    ensures { λ r. ⌜ (r .number ≡ 0 → Promise family (now (rack .entry)) (now (rack .exit)) (now (list .entry)) (now (list .exit)) r) ⌝ }
+    ensures { λ r. ⌜ Reply family (now (rack .entry)) (now (rack .exit)) (now (list .entry)) (now (list .exit)) r ⌝ }
 {
     let mut us = [0u64; 64];
     let begun = begin(rack, family, list.len(), &mut us);

@@ -11,8 +11,7 @@ use reader::writer::Written;
 ghost use mathlib.Core.Path.{_≡_};
 ghost use Rattle.frame.specs.CheckSum.{crcOf};
 ghost use Rattle.rack.specs.Event.{eventOf};
-ghost use Rattle.inventory.specs.Walk.{walkOf};
-ghost use Rattle.inventory.specs.Promise.{Promise};
+ghost use Rattle.inventory.specs.Promise.{Reply};
 ghost use Rattle.reader.specs.Request.{Wrote};
 ghost use Rattle.reader.specs.Answer.{readingOf};
 ghost use Rattle.reader.specs.Fields.{familyOf, commandOf};
@@ -42,10 +41,7 @@ pub extern "C" fn sackbutflare_walk(
     afi: u8,
     list: &mut [u8],
 ) -> Walked
-    ensures { λ r. ⌜ r ≡ walkOf (now (rack .entry)) (familyOf given afi) (now (list .entry)) .report ⌝ }
-    ensures { λ _. ⌜ now (rack .exit) ≡ walkOf (now (rack .entry)) (familyOf given afi) (now (list .entry)) .rack ⌝ }
-    ensures { λ _. ⌜ now (list .exit) ≡ walkOf (now (rack .entry)) (familyOf given afi) (now (list .entry)) .list ⌝ }
-    ensures { λ r. ⌜ (r .number ≡ 0 → Promise (familyOf given afi) (now (rack .entry)) (now (rack .exit)) (now (list .entry)) (now (list .exit)) r) ⌝ }
+    ensures { λ r. ⌜ Reply (familyOf given afi) (now (rack .entry)) (now (rack .exit)) (now (list .entry)) (now (list .exit)) r ⌝ }
 {
     let family = family_of(given, afi);
     inventory::walk::walk(rack, family, list)
