@@ -1,5 +1,5 @@
--- Demand 3 for a rack of bytes: what the walk lists, how many rounds it takes, and the rack it leaves; and that the statement leaves one reply.
--- Idea: `told` at the empty mask, then the counting theorem at four bits a round. Assumes nothing.
+-- Demand 3 for a rack of bytes: what the walk lists, how many rounds it takes, and the rack it leaves; that draws and answer buffers do not matter;
+-- and that the statement leaves one reply. Idea: `trip-is`, then the counting theorem at four bits a round. Assumes nothing.
 use mathlib.Core.Path.{_≡_, refl, ap, sym, _∙_}
 use mathlib.Core.Bool.{Bool, true, false, not}
 use mathlib.Core.List.{List}
@@ -7,7 +7,7 @@ use Prim.Native.Nat.{ℕ, suc, _+_, _*_, _/_, _≤_}
 use native.Mathlib.Omega.{arith}
 use borrow.Author.Tests.{eqb-true, ltb-false, le-ltb, ne-eqb}
 use lib.Dec.{eqb, ltb}
-use lib.ListN.{length}
+use lib.ListN.{length, length-replicate}
 use lib.Seq.{sets}
 use Rattle.frame.specs.Choose.{if_then_else_}
 use Rattle.frame.specs.Number.{Bytes}
@@ -15,18 +15,19 @@ use Rattle.request.specs.declared.label.Family.{Family}
 use Rattle.request.specs.declared.label.Family.the-variants.{Any}
 use Rattle.rack.specs.File.{countOf, verdictOf}
 use Rattle.rack.specs.Facts.{RackFine}
+use Rattle.rack.specs.Event.{least}
 use Rattle.inventory.specs.declared.walk.Walked.{Walked}
 use Rattle.inventory.specs.Endings.{count, sumTo, shared}
-use Rattle.inventory.specs.Walk.{Trip, Result, explore, depth, uids, twins, refusalOf, refused, carried, walkOf, cleared}
+use Rattle.inventory.specs.Walk.{PerEvent, Trip, Result, depth, trip, zeros, blank, uids, twins, refusalOf, refused, carried, walkOf, cleared}
 use Rattle.inventory.specs.Numbers.{listOf, roundsOf}
 use Rattle.inventory.specs.Promise.{flat, Promise, Reply}
 use Rattle.inventory.proofs.EndingsTwice.{Distinct}
 use Rattle.inventory.proofs.EndingsWalks.{all-end, listing, lists-each, as-long, rounds-16, rounds-16-bound}
 use Rattle.inventory.proofs.PromiseFlat.{flat-length}
 use Rattle.rack.proofs.FileVerdict.{rack-fine}
-use Rattle.inventory.proofs.WalkEvents.{Fine}
+use Rattle.inventory.proofs.WalkEvents.{Fine, Lent}
 use Rattle.inventory.proofs.WalkUids.{uids-below, some-distinct}
-use Rattle.inventory.proofs.WalkBridge.{branch-list, branch-rounds, told, start-good, cleared-good}
+use Rattle.inventory.proofs.WalkBridge.{branch-list, branch-rounds, trip-is}
 use Rattle.inventory.proofs.NumbersRepeated.{twins-none, none-twins}
 
 -- ---- the walk of a well-formed rack without twins
@@ -44,13 +45,13 @@ pub record Done (family : Family) (r : List ℕ) (t : Trip) : Type 0 where
   pub branches : t .found ≡ flat (listOf (depth 0) 0 (uids family r))
   pub trips : t .rounds ≡ roundsOf (depth 0) 0 (uids family r)
 
-pub done : (r : List ℕ) → Fine r → (family : Family) → Distinct (uids Any r) → Done family r (explore (depth 0) r family 0 0)
+pub done : {draws out : PerEvent} (r : List ℕ) → Fine r → Lent draws out r → (family : Family) → Distinct (uids Any r) → Done family r (trip draws out r family)
 unfolding depth
-done r fine family alone =
+done r fine lent family alone =
     let us = uids family r in
     let d = some-distinct family r alone in
     let b = uids-below r fine family in
-    let t = told family us (cleared r) (cleared-good family r fine) 15 0 r 0 (start-good family r fine) (omega arith) refl in
+    let t = trip-is family r lent fine in
     record {
       listed = listing 4 15 0 0 us;
       bytes = t .found;
@@ -63,6 +64,30 @@ done r fine family alone =
       branches = t .found ∙ ap flat (sym (ap (listOf 16 0) (sym (all-end us)) ∙ branch-list us 15 0 0 (omega arith)));
       trips = t .rounds ∙ sym (ap (roundsOf 16 0) (sym (all-end us)) ∙ branch-rounds us 15 0 0 (omega arith));
     }
+
+-- ---- draws and answer buffers do not matter
+
+-- what the walk lends its own events
+pub own : (r : List ℕ) → Lent (zeros r) blank r
+own r = record { size = λ m e s. length-replicate {A = ℕ} (countOf r) 0; room = λ m e s. omega arith }
+
+same-trip : (a b : Trip) → a .rack ≡ b .rack → a .found ≡ b .found → a .rounds ≡ b .rounds → a ≡ b
+same-trip a b p q n =
+    ap (λ (x : List ℕ). record { rack = x; found = a .found; rounds = a .rounds }) p
+    ∙ ap (λ (x : List ℕ). record { rack = b .rack; found = x; rounds = a .rounds }) q
+    ∙ ap (λ (x : ℕ). record { rack = b .rack; found = b .found; rounds = x }) n
+
+-- With any draws and buffers, others for each event, the events find the same, in as many rounds, and leave the same rack.
+pub any-draws : (r : List ℕ) → Bytes r → verdictOf r .number ≡ 0 → (draws out : PerEvent)
+    → ((bits mask s : ℕ) → length (draws bits mask s) ≡ countOf r) → ((bits mask s : ℕ) → least ≤ length (out bits mask s))
+    → (family : Family) → trip draws out r family ≡ trip (zeros r) blank r family
+any-draws r small well draws out size room family =
+    let fine : Fine r = record { rack = rack-fine r well; bytes = small } in
+    let lent : Lent draws out r = record { size = size; room = room } in
+    let t = trip-is family r lent fine in
+    let u = trip-is family r (own r) fine in
+    same-trip (trip draws out r family) (trip (zeros r) blank r family)
+    (t .rack ∙ sym (u .rack)) (t .found ∙ sym (u .found)) (t .rounds ∙ sym (u .rounds))
 
 -- ---- where no refusal applies
 
@@ -93,13 +118,13 @@ unfolding walkOf
 walk-number r family list = go (eqb (refusalOf r (length list)) 0) refl
   where
     go : (q : Bool) → eqb (refusalOf r (length list)) 0 ≡ q
-        → (if q then carried (explore (depth 0) r family 0 0) list else refused (refusalOf r (length list)) r list) .report .number ≡ 0
+        → (if q then carried (trip (zeros r) blank r family) list else refused (refusalOf r (length list)) r list) .report .number ≡ 0
         → refusalOf r (length list) ≡ 0
     go true e z = eqb-true (refusalOf r (length list)) 0 e
     go false e z = z
 
 pub walk-carried : (r : List ℕ) (family : Family) (list : List ℕ) → refusalOf r (length list) ≡ 0
-    → walkOf r family list ≡ carried (explore (depth 0) r family 0 0) list
+    → walkOf r family list ≡ carried (trip (zeros r) blank r family) list
 unfolding walkOf
 walk-carried r family list h = rw h refl
 
@@ -115,7 +140,7 @@ promise r small family list h =
     let n = walk-number r family list h in
     let a = accepted r (length list) n in
     let fine : Fine r = record { rack = a .fine; bytes = small } in
-    let p = done r fine family (twins-none r fine (a .single)) in
+    let p = done r fine (own r) family (twins-none r fine (a .single)) in
     rw (walk-carried r family list n)
     (record {
       listed = p .listed;

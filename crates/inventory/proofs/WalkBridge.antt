@@ -11,7 +11,7 @@ use lib.ListN.{length, getD}
 use Rattle.frame.specs.Choose.{gather}
 use Rattle.request.specs.declared.label.Family.{Family}
 use Rattle.inventory.specs.Endings.{sumTo}
-use Rattle.inventory.specs.Walk.{Trip, slotOutcome, hits, round, join, start, visit, upto, explore, uids, cleared}
+use Rattle.inventory.specs.Walk.{Trip, PerEvent, slotOutcome, hits, round, join, start, visit, upto, depth, explore, trip, uids, cleared}
 use Rattle.inventory.specs.Promise.{flat}
 use Rattle.inventory.specs.Numbers.{inSlot, only, ifs, lone, singles, collides, listOf, roundsOf}
 use Rattle.inventory.proofs.EndingsSums.{sum-ext, sum-zero}
@@ -20,10 +20,10 @@ use Rattle.inventory.proofs.EndingsWalks.{rounds, listing}
 use Rattle.rack.proofs.FilePlaces.{gather-ext}
 use Rattle.inventory.proofs.Lists.{gather-at}
 use Rattle.inventory.proofs.PromiseFlat.{flat-append, flat-none, flat-gather}
-use Rattle.inventory.proofs.WalkEvents.{Fine}
+use Rattle.inventory.proofs.WalkEvents.{Fine, Lent, lent-same}
 use Rattle.inventory.proofs.WalkRounds.{left-rack}
 use Rattle.inventory.proofs.WalkUids.{heard-count, heard-alone}
-use Rattle.inventory.proofs.WalkClears.{cleared-fine, cleared-uids, cleared-twice}
+use Rattle.inventory.proofs.WalkClears.{cleared-fine, cleared-count, cleared-uids, cleared-twice}
 
 pub ifs-none : (n : ℕ) (b : ℕ → Bool) → gather n (λ s. ifs (b s) []) ≡ []
 unfolding gather
@@ -43,18 +43,18 @@ only-none n b = sum-zero n (λ s. only (b s) 0) (λ s. go (b s))
 
 -- ---- the three facts of a round
 
-module _ (r : List ℕ) (fine : Fine r) (family : Family) (m e : ℕ) (short : m ≤ 60) (low : e < 2 ^ m) where
-  pub left : round r family m e .rack ≡ cleared r
+module _ {draws out : PerEvent} (r : List ℕ) (lent : Lent draws out r) (fine : Fine r) (family : Family) (m e : ℕ) (short : m ≤ 60) (low : e < 2 ^ m) where
+  pub left : round draws out r family m e .rack ≡ cleared r
   unfolding round
-  left = left-rack r fine family m e short low
+  left = left-rack r fine family m e short low lent
 
-  hit : (s : ℕ) → s < 16 → getD (round r family m e .hits) s 0 ≡ length (members (4 + m) (mask m e s) (uids family r))
+  hit : (s : ℕ) → s < 16 → getD (round draws out r family m e .hits) s 0 ≡ length (members (4 + m) (mask m e s) (uids family r))
   unfolding round
-  hit s h = gather-at 16 (λ i. hits (slotOutcome r family m e i)) s h ∙ heard-count r fine family m e short low s (omega arith)
+  hit s h = gather-at 16 (λ i. hits (slotOutcome draws out r family m e i)) s h ∙ heard-count r fine family m e short low s (omega arith) lent
 
-  pub list : round r family m e .found ≡ flat (gather 16 (λ s. lone (members (4 + m) (mask m e s) (uids family r))))
+  pub list : round draws out r family m e .found ≡ flat (gather 16 (λ s. lone (members (4 + m) (mask m e s) (uids family r))))
   unfolding round
-  list = gather-ext 16 _ _ (λ s h. heard-alone r fine family m e short low s (omega arith)) ∙ flat-gather 16 _
+  list = gather-ext 16 _ _ (λ s h. heard-alone r fine family m e short low s (omega arith) lent) ∙ flat-gather 16 _
 
 -- ---- as the code does it: a branch by slots
 
@@ -94,9 +94,10 @@ module _ (us : List ℕ) where
 
 -- ---- the walk
 
-module _ (family : Family) (us C : List ℕ) where
+module _ (draws out : PerEvent) (family : Family) (us C : List ℕ) where
   -- a rack with these UIDs, that is C once it is cleared
   pub record Good (r : List ℕ) : Type 0 where
+    pub lent : Lent draws out r
     pub fine : Fine r
     pub same : uids family r ≡ us
     pub clears : cleared r ≡ C
@@ -127,41 +128,50 @@ module _ (family : Family) (us C : List ℕ) where
 
   module _ (C-good : Good C) where
     pub told : (d m : ℕ) (r : List ℕ) (e : ℕ) → Good r → e < 2 ^ m → 4 * suc d + m ≡ 64
-        → TripIs (explore (suc d) r family m e) (listing 4 d m e us) (rounds 4 d m e us)
+        → TripIs (explore draws out (suc d) r family m e) (listing 4 d m e us) (rounds 4 d m e us)
     unfolding explore join start rounds listing
     told zero m r e g i w =
         let b : m ≤ 60 = omega arith in
-        let h = round r family m e in
-        let k = slots m e (h .hits) (λ r₁ n. explore 0 r₁ family (m + 4) n) (λ n. []) (λ n. 0) 16
-        (λ n q r₁ g₁. record { rack = g₁; found = sym flat-none; rounds = refl }) (h .rack) (left r (g .fine) family m e b i ∙ g .clears) in
+        let h = round draws out r family m e in
+        let k = slots m e (h .hits) (λ r₁ n. explore draws out 0 r₁ family (m + 4) n) (λ n. []) (λ n. 0) 16
+        (λ n q r₁ g₁. record { rack = g₁; found = sym flat-none; rounds = refl }) (h .rack) (left r (g .lent) (g .fine) family m e b i ∙ g .clears) in
         record {
           rack = k .rack;
           found = ap (λ (x : List ℕ). h .found ++ x) (k .found ∙ ap flat (ifs-none 16 (λ n. ltb 1 (getD (h .hits) n 0))) ∙ flat-none) ∙ append-nil (h .found)
-              ∙ rw (g .same) at (list r (g .fine) family m e b i);
+              ∙ rw (g .same) at (list r (g .lent) (g .fine) family m e b i);
           rounds = ap (λ (x : ℕ). 1 + x) (k .rounds ∙ only-none 16 (λ n. ltb 1 (getD (h .hits) n 0)));
         }
     told (suc d) m r e g i w =
         let b : m ≤ 60 = omega arith in
-        let h = round r family m e in
+        let h = round draws out r family m e in
         let L : ℕ → List ℕ = λ n. listing 4 d (4 + m) (mask m e n) us in
         let N : ℕ → ℕ = λ n. rounds 4 d (4 + m) (mask m e n) us in
-        let k = slots m e (h .hits) (λ r₁ n. explore (suc d) r₁ family (m + 4) n) L N 16
+        let k = slots m e (h .hits) (λ r₁ n. explore draws out (suc d) r₁ family (m + 4) n) L N 16
         (λ n q r₁ g₁. rw (add-comm m 4) (told d (4 + m) r₁ (mask m e n) (rw g₁ C-good) (mask-lt 4 m e n i q) (omega arith)))
-        (h .rack) (left r (g .fine) family m e b i ∙ g .clears) in
+        (h .rack) (left r (g .lent) (g .fine) family m e b i ∙ g .clears) in
         let counts : (n : ℕ) → n < 16 → getD (h .hits) n 0 ≡ length (members (4 + m) (mask m e n) us)
-        = λ n q. rw (g .same) at (hit r (g .fine) family m e b i n q) in
+        = λ n q. rw (g .same) at (hit r (g .lent) (g .fine) family m e b i n q) in
         record {
           rack = k .rack;
           found = ap (λ (x : List ℕ). h .found ++ x) (k .found)
-              ∙ ap (λ (x : List ℕ). x ++ flat (gather 16 (λ n. ifs (ltb 1 (getD (h .hits) n 0)) (L n)))) (rw (g .same) at (list r (g .fine) family m e b i))
+              ∙ ap (λ (x : List ℕ). x ++ flat (gather 16 (λ n. ifs (ltb 1 (getD (h .hits) n 0)) (L n))))
+              (rw (g .same) at (list r (g .lent) (g .fine) family m e b i))
               ∙ sym (flat-append (gather 16 (λ s. lone (members (4 + m) (mask m e s) us))) _)
               ∙ ap (λ (x : List ℕ). flat (gather 16 (λ s. lone (members (4 + m) (mask m e s) us)) ++ x))
               (gather-ext 16 _ _ (λ n q. ap (λ (z : ℕ). ifs (leb 2 z) (L n)) (counts n q)));
           rounds = ap (λ (x : ℕ). 1 + x) (k .rounds ∙ sum-ext 16 _ _ (λ n q. ap (λ (z : ℕ). only (leb 2 z) (N n)) (counts n q)));
         }
 
-pub start-good : (family : Family) (r : List ℕ) → Fine r → Good family (uids family r) (cleared r) r
-start-good family r f = record { fine = f; same = refl; clears = refl }
+module _ {draws out : PerEvent} (family : Family) (r : List ℕ) (l : Lent draws out r) (f : Fine r) where
+  start-good : Good draws out family (uids family r) (cleared r) r
+  start-good = record { lent = l; fine = f; same = refl; clears = refl }
 
-pub cleared-good : (family : Family) (r : List ℕ) → Fine r → Good family (uids family r) (cleared r) (cleared r)
-cleared-good family r f = record { fine = cleared-fine r f; same = cleared-uids r f family; clears = cleared-twice r f }
+  cleared-good : Good draws out family (uids family r) (cleared r) (cleared r)
+  cleared-good =
+      record { lent = lent-same l (cleared-count r f); fine = cleared-fine r f; same = cleared-uids r f family; clears = cleared-twice r f }
+
+  -- from no mask on
+  pub trip-is : TripIs draws out family (uids family r) (cleared r) (trip draws out r family)
+      (listing 4 15 0 0 (uids family r)) (rounds 4 15 0 0 (uids family r))
+  unfolding depth
+  trip-is = told draws out family (uids family r) (cleared r) cleared-good 15 0 r 0 start-good (omega arith) refl

@@ -16,14 +16,14 @@ use Rattle.request.specs.declared.label.Family.the-variants.{Any}
 use Rattle.rack.specs.File.{countOf, verdictOf}
 use Rattle.rack.specs.Facts.{RackFine}
 use Rattle.inventory.specs.declared.walk.Walked.{Walked}
-use Rattle.inventory.specs.Walk.{explore, depth, uids, twins, refusalOf, cleared}
+use Rattle.inventory.specs.Walk.{depth, trip, zeros, blank, uids, twins, refusalOf, cleared}
 use Rattle.inventory.specs.Numbers.{First, repeated, listOf, roundsOf}
 use Rattle.inventory.specs.Promise.{flat, Reply}
 use Rattle.inventory.proofs.WalkEvents.{Fine}
 use Rattle.inventory.proofs.WalkUids.{uids-few}
 use Rattle.rack.proofs.FileVerdict.{rack-fine}
 use Rattle.inventory.proofs.NumbersRepeated.{twins-repeated, twins-none}
-use Rattle.inventory.proofs.Promise.{Accepted, accepted, Done, done, walk-carried, walk-refused, replies}
+use Rattle.inventory.proofs.Promise.{Accepted, accepted, Done, done, own, walk-carried, walk-refused, replies}
 
 -- the first n of us, as a part of them is lent
 first-part : {xs us : List ℕ} {n : ℕ} → First xs us n → take (n - 0) us ≡ xs
@@ -83,8 +83,8 @@ module _ (r : List ℕ) (small : Bytes r) (family : Family) (list : List ℕ) wh
     ok : Accepted r (length list)
     ok = accepted r (length list) (sym e ∙ h)
 
-    walked : Done family r (explore (depth 0) r family 0 0)
-    walked = let fine : Fine r = record { rack = ok .fine; bytes = small } in done r fine family (twins-none r fine (ok .single))
+    walked : Done family r (trip (zeros r) blank r family)
+    walked = let fine : Fine r = record { rack = ok .fine; bytes = small } in done r fine (own r) family (twins-none r fine (ok .single))
 
     pub call-fine : RackFine r
     call-fine = ok .fine
@@ -108,6 +108,6 @@ module _ (r : List ℕ) (small : Bytes r) (family : Family) (list : List ℕ) wh
       call-walked {r₁} {list₁} {c} {k} p told =
           let x = walk-carried r family list (sym e ∙ h) in
           let t = rw (first-part first) at told in
-          let z : c ≡ length (explore (depth 0) r family 0 0 .found) = t .1 .0 ∙ zero-add _ ∙ ap length (sym (walked .branches)) in
-          let y : k ≡ explore (depth 0) r family 0 0 .rounds = t .1 .1 ∙ sym (walked .trips) in
+          let z : c ≡ length (trip (zeros r) blank r family .found) = t .1 .0 ∙ zero-add _ ∙ ap length (sym (walked .branches)) in
+          let y : k ≡ trip (zeros r) blank r family .rounds = t .1 .1 ∙ sym (walked .trips) in
           replies r small family list (rw (x, z, y) refl) (rw x (p ∙ sym (walked .leaves))) (rw x (t .0 ∙ ap (sets list 0) (sym (walked .branches))))

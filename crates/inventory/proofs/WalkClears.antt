@@ -39,6 +39,10 @@ module _ (r : List ℕ) where
           bytes = rebuilt-bytes r blank (fine .bytes) (λ i h. clear-ok (tag r fine i h) .small);
         }
 
+    pub cleared-count : countOf (cleared r) ≡ countOf r
+    unfolding cleared
+    cleared-count = rebuilt-count r (fine .rack .whole) blank blank-sized
+
     pub cleared-uids : (family : Family) → uids family (cleared r) ≡ uids family r
     unfolding uidsTo cleared
     cleared-uids family =

@@ -5,9 +5,9 @@ use mathlib.Core.Bool.{true, _&&_}
 use mathlib.Core.List.{List, []}
 use Prim.Native.Nat.{ℕ, _^_, _≤_, _<_}
 use native.Mathlib.Omega.{arith}
-use borrow.Author.Tests.{eq-eqb}
+use borrow.Author.Tests.{eq-eqb, le-ltb}
 use lib.Dec.{leb}
-use lib.ListN.{length, getD, length-replicate}
+use lib.ListN.{length, getD}
 use Rattle.frame.specs.Choose.{gather}
 use Rattle.frame.specs.Number.{Bytes}
 use Rattle.frame.proofs.Numbers.{bytes-part}
@@ -21,9 +21,9 @@ use Rattle.request.specs.Chip as chips
 use Rattle.rack.specs.File.{Kind, Label, Chip, Other}
 use Rattle.rack.specs.File.{countOf, kindAt, lengthAt, startOf, bodyAt, rebuilt, lengthFits, bodyRules}
 use Rattle.rack.specs.Facts.{RackFine}
-use Rattle.rack.specs.Event.{Event, Outcome, aired, next, answer, nextRack, answers, played, refusalOf, eventOf}
-use Rattle.inventory.specs.Walk.{request, blank, sent}
-use Rattle.inventory.proofs.WalkSent.{event, draws}
+use Rattle.rack.specs.Event.{Event, aired, next, answer, nextRack, answers, played, least, refusalOf, eventOf}
+use Rattle.inventory.specs.Walk.{PerEvent, request}
+use Rattle.inventory.proofs.WalkSent.{event}
 use Rattle.request.proofs.LabelFramed.{sixteen-back, sixteen-afi-back}
 use Rattle.rack.proofs.FilePlaces.{gather-ext}
 use Rattle.rack.proofs.FileRebuilt.{rebuilt-ext}
@@ -59,21 +59,24 @@ rebuilt-fine r g ok h =
 
 -- ---- no refusal applies
 
-accepted : (r : List ℕ) → RackFine r → (e : ℕ) → (leb 1 e && leb e 5) ≡ true → refusalOf r e (length (draws r)) (length blank) ≡ 0
-unfolding refusalOf
-accepted r ok e h = rw (fine-rack r ok, length-replicate {A = ℕ} (countOf r) 0, eq-eqb (countOf r) (countOf r) refl, h) refl
+-- what the events of a walk on r may be lent
+pub record Lent (draws out : PerEvent) (r : List ℕ) : Type 0 where
+  pub size : (m e s : ℕ) → length (draws m e s) ≡ countOf r
+  pub room : (m e s : ℕ) → least ≤ length (out m e s)
 
-plays : (r : List ℕ) → RackFine r → (e : ℕ) → (leb 1 e && leb e 5) ≡ true → (f : List ℕ) → sent r e f ≡ played r (aired e f) (draws r) blank
-unfolding sent eventOf
-plays r ok e h f = rw (accepted r ok e h) refl
+-- by another rack with as many tags
+pub lent-same : {draws out : PerEvent} {r x : List ℕ} → Lent draws out r → countOf x ≡ countOf r → Lent draws out x
+lent-same l e = record { size = λ m n s. l .size m n s ∙ sym e; room = l .room }
 
--- a call of the walk played
-abbrev pub told : List ℕ → Call → Outcome
-told r call = played r (event call) (draws r) blank
+module _ {draws out : PerEvent} {r : List ℕ} (lent : Lent draws out r) (ok : RackFine r) (m n s : ℕ) where
+  plays : (e : ℕ) → (leb 1 e && leb e 5) ≡ true → (f : List ℕ) → eventOf r e f (draws m n s) (out m n s) ≡ played r (aired e f) (draws m n s) (out m n s)
+  unfolding eventOf refusalOf
+  plays e h f =
+      rw (fine-rack r ok, lent .size m n s, eq-eqb (countOf r) (countOf r) refl, le-ltb (length (out m n s)) least (lent .room m n s), h) refl
 
-pub ends : (r : List ℕ) → RackFine r → sent r 4 [] ≡ told r EndOfFrame
-unfolding labels.heard labels.dataOf chips.heard
-ends r ok = plays r ok 4 refl []
+  pub ends : eventOf r 4 [] (draws m n s) (out m n s) ≡ played r (event EndOfFrame) (draws m n s) (out m n s)
+  unfolding labels.heard labels.dataOf chips.heard
+  ends = plays 4 refl []
 
 -- ---- an Inventory
 
@@ -103,11 +106,12 @@ module _ (r : List ℕ) (ok : Fine r) (family : Family) (m e : ℕ) where
   unfolding answers answer
   answers-first bytes ds = gather-ext (countOf r) _ _ (λ i h. answer-first (kindAt r i) (bodyAt r i) family m e bytes (getD ds i 0))
 
-  pub opens : m ≤ 60 → e < 2 ^ m → sent r 3 (request family m e) ≡ told r (Inventory family true m e)
-  opens short low =
+  pub opens : {draws out : PerEvent} → Lent draws out r → m ≤ 60 → e < 2 ^ m
+      → eventOf r 3 (request family m e) (draws m e 0) (out m e 0) ≡ played r (event (Inventory family true m e)) (draws m e 0) (out m e 0)
+  opens {draws} {out} lent short low =
       let bs = labels.dataOf (request family m e) in
-      plays r (ok .rack) 3 refl (request family m e)
-      ∙ ap (λ (x : Event). played r x (draws r) blank) (signal-reads family m e short low)
-      ∙ played-same r (eventWith bs (Inventory family true m e)) (event (Inventory family true m e)) (draws r) blank
-      (answers-first bs (draws r) ∙ sym (answers-first [] (draws r)))
-      (next-first bs (draws r) ∙ sym (next-first [] (draws r)))
+      let ds = draws m e 0 in
+      plays lent (ok .rack) m e 0 3 refl (request family m e)
+      ∙ ap (λ (x : Event). played r x ds (out m e 0)) (signal-reads family m e short low)
+      ∙ played-same r (eventWith bs (Inventory family true m e)) (event (Inventory family true m e)) ds (out m e 0)
+      (answers-first bs ds ∙ sym (answers-first [] ds)) (next-first bs ds ∙ sym (next-first [] ds))

@@ -29,7 +29,7 @@ use Rattle.rack.specs.File.{countOf, kindAt, bodyAt}
 use Rattle.rack.specs.Event.{opened}
 use Rattle.inventory.specs.Endings.{ending, count}
 use Rattle.inventory.specs.Walk as walk
-use Rattle.inventory.specs.Walk.{slotOutcome, blank, hits, uidAt, uidsTo, uids}
+use Rattle.inventory.specs.Walk.{PerEvent, slotOutcome, hits, uidAt, uidsTo, uids}
 use Rattle.inventory.specs.Promise.{flat}
 use Rattle.inventory.proofs.WalkSent.{uidAlone}
 use Rattle.label.proofs.Slots.{found-frame}
@@ -41,7 +41,7 @@ use Rattle.inventory.proofs.PromiseFlat.{flat-one, flat-none}
 use Rattle.inventory.proofs.EndingsTrie.{keep-append, members, mask}
 use Rattle.inventory.specs.Numbers.{lone}
 use Rattle.inventory.proofs.WalkBodies.{called, spoken}
-use Rattle.inventory.proofs.WalkEvents.{Fine, tag, tag-long}
+use Rattle.inventory.proofs.WalkEvents.{Fine, Lent, tag, tag-long}
 use Rattle.rack.proofs.FileRebuilt.{body-long}
 use Rattle.inventory.proofs.WalkRounds.{asked, asked-size, asked-uid, frames, heard-in}
 
@@ -186,15 +186,16 @@ module _ (r : List ℕ) (fine : Fine r) (family : Family) (m e : ℕ) (short : m
       (tag r fine i b .small) (omega (arith, body-long r (fine .rack .whole) i b, tag-long r (fine .rack) i b))
       (called family m e s (kindAt r i) (bodyAt r i)))
 
-  -- in slot s exactly those labels answer that take part and whose UID ends in mask and slot: as many,
-  pub heard-count : hits (slotOutcome r family m e s) ≡ length (members (4 + m) (mask m e s) (uids family r))
-  heard-count = heard-in r fine family m e short low s h .0 ∙ sym (length-map heard uidIn) ∙ ap length frames-members
+  module _ {draws out : PerEvent} (lent : Lent draws out r) where
+    -- in slot s exactly those labels answer that take part and whose UID ends in mask and slot: as many,
+    pub heard-count : hits (slotOutcome draws out r family m e s) ≡ length (members (4 + m) (mask m e s) (uids family r))
+    heard-count = heard-in r fine family m e short low lent s h .0 ∙ sym (length-map heard uidIn) ∙ ap length frames-members
 
-  -- and the only one's UID
-  heard-uid : walk.alone (slotOutcome r family m e s) ≡ uidAlone heard
-  heard-uid =
-      let i = heard-in r fine family m e short low s h in
-      rw (i .0, i .1) (opened-alone heard blank frames-proper)
+    -- and the only one's UID
+    heard-uid : walk.alone (slotOutcome draws out r family m e s) ≡ uidAlone heard
+    heard-uid =
+        let i = heard-in r fine family m e short low lent s h in
+        rw (i .0, i .1) (opened-alone heard (out m e s) frames-proper)
 
-  pub heard-alone : walk.alone (slotOutcome r family m e s) ≡ flat (lone (members (4 + m) (mask m e s) (uids family r)))
-  heard-alone = heard-uid ∙ alone-flat heard frames-proper ∙ ap (λ (us : List ℕ). flat (lone us)) frames-members
+    pub heard-alone : walk.alone (slotOutcome draws out r family m e s) ≡ flat (lone (members (4 + m) (mask m e s) (uids family r)))
+    heard-alone = heard-uid ∙ alone-flat heard frames-proper ∙ ap (λ (us : List ℕ). flat (lone us)) frames-members

@@ -25,20 +25,7 @@ unfoldable pub request : Family → ℕ → ℕ → List ℕ
 request Any bits mask = framed (6 ∷ 1 ∷ bits ∷ bytesOf (bytesFor bits) mask)
 request (Only afi) bits mask = framed (22 ∷ 1 ∷ afi ∷ bits ∷ bytesOf (bytesFor bits) mask)
 
--- the answer buffer of the walk's own events
-abbrev pub blank : List ℕ
-blank = replicate least 0
-
--- an event sent to a rack, with a draw for each tag and an answer buffer; labels use no draw
-unfoldable pub sent : List ℕ → ℕ → List ℕ → Outcome
-sent r number f = eventOf r number f (replicate (countOf r) 0) blank
-
--- what came back in slot s: the Inventory asks slot 0, each end of frame the next
-unfoldable pub slotOutcome : List ℕ → Family → ℕ → ℕ → ℕ → Outcome
-slotOutcome r family bits mask zero = sent r 3 (request family bits mask)
-slotOutcome r family bits mask (suc s) = sent (slotOutcome r family bits mask s .rack) 4 []
-
--- how many answered in it, and the UID of one that was alone: bytes 2 to 9 of its answer
+-- how many answered in a slot, and the UID of one that was alone: bytes 2 to 9 of its answer
 abbrev pub hits : Outcome → ℕ
 hits o = o .report .answered
 
@@ -50,14 +37,24 @@ pub record Hearing : Type 0 where
   pub found : List ℕ
   pub hits : List ℕ
 
--- labels heard alone are listed in slot order
-unfoldable pub round : List ℕ → Family → ℕ → ℕ → Hearing
-round r family bits mask =
-    record {
-      rack = slotOutcome r family bits mask 16 .rack;
-      found = gather 16 (λ s. alone (slotOutcome r family bits mask s));
-      hits = gather 16 (λ s. hits (slotOutcome r family bits mask s) ∷ []);
-    }
+-- what each event of a walk is lent, a draw for each tag and an answer buffer; an event is told by the bits of its mask, the mask and the slot
+abbrev pub PerEvent : Type 0
+PerEvent = ℕ → ℕ → ℕ → List ℕ
+
+module _ (draws out : PerEvent) where
+  -- what came back in slot s: the Inventory asks slot 0, each end of frame the next; labels use no draw
+  unfoldable pub slotOutcome : List ℕ → Family → ℕ → ℕ → ℕ → Outcome
+  slotOutcome r family bits mask zero = eventOf r 3 (request family bits mask) (draws bits mask 0) (out bits mask 0)
+  slotOutcome r family bits mask (suc s) = eventOf (slotOutcome r family bits mask s .rack) 4 [] (draws bits mask (suc s)) (out bits mask (suc s))
+
+  -- labels heard alone are listed in slot order
+  unfoldable pub round : List ℕ → Family → ℕ → ℕ → Hearing
+  round r family bits mask =
+      record {
+        rack = slotOutcome r family bits mask 16 .rack;
+        found = gather 16 (λ s. alone (slotOutcome r family bits mask s));
+        hits = gather 16 (λ s. hits (slotOutcome r family bits mask s) ∷ []);
+      }
 
 -- ---- then, for each slot with a collision, in slot order, a round with its mask four bits longer, carried through before the next slot
 
@@ -86,11 +83,16 @@ module _ (sub : List ℕ → ℕ → Trip) (heard : List ℕ) (bits mask : ℕ) 
 unfoldable pub depth : ℕ → ℕ
 depth bits = (64 - bits) / 4
 
-unfoldable pub explore : ℕ → List ℕ → Family → ℕ → ℕ → Trip
-explore zero rack family bits mask = record { rack = rack; found = []; rounds = 0 }
-explore (suc d) rack family bits mask =
-    let h = round rack family bits mask in
-    join (start h) (upto (λ r longerMask. explore d r family (bits + 4) longerMask) (h .hits) bits mask 16 (h .rack))
+module _ (draws out : PerEvent) where
+  unfoldable pub explore : ℕ → List ℕ → Family → ℕ → ℕ → Trip
+  explore zero rack family bits mask = record { rack = rack; found = []; rounds = 0 }
+  explore (suc d) rack family bits mask =
+      let h = round draws out rack family bits mask in
+      join (start h) (upto (λ r longerMask. explore d r family (bits + 4) longerMask) (h .hits) bits mask 16 (h .rack))
+
+  -- from no mask on
+  abbrev pub trip : List ℕ → Family → Trip
+  trip r family = explore (depth 0) r family 0 0
 
 -- ---- the call
 
@@ -130,9 +132,16 @@ refused n r list = record { report = record { number = n; labels = 0; rounds = 0
 abbrev pub carried : Trip → List ℕ → Result
 carried t list = record { report = record { number = 0; labels = length (t .found) / 8; rounds = t .rounds }; rack = t .rack; list = sets list 0 (t .found) }
 
+-- the walk's own draws and buffers; any others give the same (`any-draws`)
+abbrev pub zeros : List ℕ → PerEvent
+zeros r bits mask s = replicate (countOf r) 0
+
+abbrev pub blank : PerEvent
+blank bits mask s = replicate least 0
+
 unfoldable pub walkOf : List ℕ → Family → List ℕ → Result
 walkOf r family list =
-    if eqb (refusalOf r (length list)) 0 then carried (explore (depth 0) r family 0 0) list
+    if eqb (refusalOf r (length list)) 0 then carried (trip (zeros r) blank r family) list
     else refused (refusalOf r (length list)) r list
 
 -- every label's slot, mask length and mask cleared, and nothing else changed
