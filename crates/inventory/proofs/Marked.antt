@@ -22,11 +22,13 @@ use Rattle.label.specs.Slots.{takesPart}
 use Rattle.label.specs.Step.{passes, ready, heeds}
 use Rattle.request.specs.declared.label.Family.{Family}
 use Rattle.request.specs.declared.label.Family.the-variants.{Any}
-use Rattle.rack.specs.File.{startOf, kindOf, headVerdict, lengthFits, entryVerdict, bodyRules, moved, bodyVerdict, endVerdict, verdictOf}
+use Rattle.rack.specs.File.{countOf, startOf, kindOf, headVerdict, lengthFits, entryVerdict, bodyRules, moved, bodyVerdict, endVerdict, verdictOf}
 use Rattle.inventory.specs.Endings.{count, keepIf, keep, different, ending, sumTo, shared}
-use Rattle.inventory.specs.Walk.{uidAt, uidsTo, uids, twins, refusalOf, walkOf}
+use Rattle.inventory.specs.Walk.{uidAt, uidsTo, uids, walkOf}
+use Rattle.inventory.specs.Numbers.{repeated}
 use Rattle.inventory.proofs.EndingsSums.{sum-ext}
-use Rattle.inventory.proofs.Promise.{walk-carried, promise}
+use Rattle.inventory.proofs.NumbersRepeated.{repeated-none}
+use Rattle.inventory.proofs.Promise.{demand-3}
 
 -- ---- on UIDs
 
@@ -63,18 +65,19 @@ top-four u v e = ap (λ (n : ℕ). 1 + n) (sum-ext 15 _ (λ i. 1) (λ i h. one-s
 
 -- ---- on racks
 
--- what a walk that is not refused counts
-counted : (r : List ℕ) → Bytes r → (family : Family) (list : List ℕ) → refusalOf r (length list) ≡ 0
-    → walkOf r family list .report .rounds ≡ byEndings (uids family r)
-counted r small family list h = promise r small family list (ap (λ x. x .report .number) (walk-carried r family list h)) .counts
+-- what the demand counts on a rack of bytes that is well-formed, has room in the list and no twins
+module _ (r : List ℕ) (small : Bytes r) (family : Family) (list : List ℕ)
+    (well : verdictOf r .number ≡ 0) (roomy : 8 * countOf r ≤ length list) (alone : (v : ℕ) → count v (uids Any r) ≤ 1) where
+  counted : walkOf r family list .report .rounds ≡ byEndings (uids family r)
+  counted = demand-3 r small family list well roomy alone .1 .counts
 
-pub walk-k : (r : List ℕ) → Bytes r → (family : Family) (list : List ℕ) → refusalOf r (length list) ≡ 0
-    → (u v : ℕ) → uids family r ≡ u ∷ v ∷ [] → ending 60 u ≡ ending 60 v → walkOf r family list .report .rounds ≡ 16
-walk-k r small family list h u v e t = counted r small family list h ∙ ap byEndings e ∙ top-four u v t
+  -- (k) exactly two labels answer, which differ, since there are no twins, but only in the top four bits
+  pub walk-k : (u v : ℕ) → uids family r ≡ u ∷ v ∷ [] → ending 60 u ≡ ending 60 v → walkOf r family list .report .rounds ≡ 16
+  walk-k u v e t = counted ∙ ap byEndings e ∙ top-four u v t
 
-pub walk-l : (r : List ℕ) → Bytes r → (family : Family) (list : List ℕ) → refusalOf r (length list) ≡ 0 → uids family r ≡ []
-    → walkOf r family list .report .rounds ≡ 1
-walk-l r small family list h e = counted r small family list h ∙ ap byEndings e
+  -- (l) no label answers
+  pub walk-l : uids family r ≡ [] → walkOf r family list .report .rounds ≡ 1
+  walk-l e = counted ∙ ap byEndings e
 
 -- a rack of two such labels, each with one block of one byte, and a rack of no tag
 abbrev label : ℕ → List ℕ
@@ -90,10 +93,14 @@ pub uids-k : uids Any rack-k ≡ 0xE000000000000011 ∷ 0xD000000000000011 ∷ [
 unfolding uidsTo uidAt takesPart heeds ready loadOf passes kindOf gather startOf
 uids-k = refl
 
-pub accepts-k : refusalOf rack-k 16 ≡ 0
-unfolding refusalOf verdictOf headVerdict entryVerdict kindOf lengthFits bodyVerdict bodyRules moved endVerdict labelRules headRules lockRoom
-    locksVerdict slotRules maskVerdict over byteVerdict firstOf twins uidsTo uidAt takesPart heeds ready loadOf passes gather startOf
-accepts-k = refl
+pub well-k : verdictOf rack-k .number ≡ 0
+unfolding verdictOf headVerdict entryVerdict kindOf lengthFits bodyVerdict bodyRules moved endVerdict labelRules headRules lockRoom locksVerdict
+    slotRules maskVerdict over byteVerdict firstOf startOf
+well-k = refl
+
+alone-k : (v : ℕ) → count v (uids Any rack-k) ≤ 1
+unfolding repeated
+alone-k = repeated-none (uids Any rack-k) (ap repeated uids-k)
 
 abbrev rack-l : List ℕ
 rack-l = 1 ∷ 0 ∷ []
@@ -102,9 +109,9 @@ pub uids-l : uids Any rack-l ≡ []
 unfolding uidsTo gather
 uids-l = refl
 
-pub accepts-l : refusalOf rack-l 0 ≡ 0
-unfolding refusalOf verdictOf headVerdict endVerdict firstOf twins uidsTo gather startOf
-accepts-l = refl
+pub well-l : verdictOf rack-l .number ≡ 0
+unfolding verdictOf headVerdict endVerdict firstOf startOf
+well-l = refl
 
 abbrev small : List ℕ → Bool
 small [] = true
@@ -116,10 +123,11 @@ bytes-of (b ∷ s) e zero = ltb-true b 256 (and-both (ltb b 256) (small s) e .0)
 bytes-of (b ∷ s) e (suc i) = bytes-of s (and-both (ltb b 256) (small s) e .1) i
 
 pub walked-k : (list : List ℕ) → length list ≡ 16 → walkOf rack-k Any list .report .rounds ≡ 16
-walked-k list h = walk-k rack-k (bytes-of rack-k refl) Any list (ap (refusalOf rack-k) h ∙ accepts-k) 0xE000000000000011 0xD000000000000011 uids-k refl
+walked-k list h =
+    walk-k rack-k (bytes-of rack-k refl) Any list well-k (omega (arith, h)) alone-k 0xE000000000000011 0xD000000000000011 uids-k refl
 
 pub walked-l : (list : List ℕ) → length list ≡ 0 → walkOf rack-l Any list .report .rounds ≡ 1
-walked-l list h = walk-l rack-l (bytes-of rack-l refl) Any list (ap (refusalOf rack-l) h ∙ accepts-l) uids-l
+walked-l list h = walk-l rack-l (bytes-of rack-l refl) Any list well-l (omega (arith, h)) (λ v. rw uids-l (omega arith)) uids-l
 
 -- ---- the list
 

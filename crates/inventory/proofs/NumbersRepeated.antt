@@ -77,7 +77,7 @@ module _ {us : List ℕ} {i : ℕ} (k : Comparing us i) where
 
 -- ---- none is found exactly where they are distinct
 
-repeated-none : (us : List ℕ) → repeated us ≡ false → Distinct us
+pub repeated-none : (us : List ℕ) → repeated us ≡ false → Distinct us
 unfolding repeated
 repeated-none [] h v = omega arith
 repeated-none (x ∷ us) h v =
