@@ -15,7 +15,6 @@ use Rattle.request.specs.declared.label.Family.{Family}
 use Rattle.request.specs.declared.label.Family.the-variants.{Any}
 use Rattle.rack.specs.File.{countOf, verdictOf}
 use Rattle.rack.specs.Facts.{RackFine}
-use Rattle.inventory.specs.declared.walk.Walked.{Walked}
 use Rattle.inventory.specs.Walk.{depth, trip, zeros, blank, uids, twins, refusalOf, cleared}
 use Rattle.inventory.specs.Numbers.{First, repeated, listOf, roundsOf}
 use Rattle.inventory.specs.Promise.{flat, Reply}

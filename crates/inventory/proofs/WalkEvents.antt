@@ -15,7 +15,6 @@ use Rattle.request.specs.Label as labels
 use Rattle.request.specs.Label.{bare}
 use Rattle.request.specs.declared.label.Family.{Family}
 use Rattle.request.specs.declared.label.Family.the-variants.{Any, Only}
-use Rattle.request.specs.declared.label.Call.{Call}
 use Rattle.request.specs.declared.label.Call.the-variants.{Inventory, EndOfFrame}
 use Rattle.request.specs.Chip as chips
 use Rattle.rack.specs.File.{Kind, Label, Chip, Other}
