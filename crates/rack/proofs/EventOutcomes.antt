@@ -24,16 +24,12 @@ use Rattle.rack.specs.declared.event.Report.{Report}
 use Rattle.rack.specs.File.{countOf, kindAt, lengthAt, offsetAt, startOf, bodyAt, verdictOf}
 use Rattle.rack.specs.Facts.{RackFine, Tellable, bodyOf}
 use Rattle.rack.specs.Event.{Event, carrying, aired, nextBody, frameOf, answer, answers, nextRack}
-use Rattle.rack.specs.Event.{opened, lengthAlone, Outcome, played, least, refusalOf, eventOf}
+use Rattle.rack.specs.Event.{opened, lengthAlone, played, least, refusalOf, eventOf, Replied}
 use Rattle.rack.specs.Pass.{AloneBy, PassOf}
 use Rattle.rack.proofs.FileVerdict.{rack-fine}
 use Rattle.rack.proofs.EventTags.{frame-same, frame-short, sayable-next}
 use Rattle.rack.proofs.Pass.{tag-fine}
 use Rattle.rack.proofs.EventNext.{next-length, next-lengthAt, next-offset, next-start, body-next}
-
--- what a call shows of an outcome
-abbrev pub Shows : Outcome → Report → List ℕ → List ℕ → Type 0
-Shows o report rack out = (report ≡ o .report) × ((rack ≡ o .rack) × (out ≡ o .out))
 
 -- ---- which refusal is first: v the verdict, n the number of tags, as the code has them
 module _ (r : List ℕ) (number draws room : ℕ) (v : Verdict) (q : v ≡ verdictOf r) where
@@ -153,9 +149,9 @@ module _ (r : List ℕ) (event : Event) (ds : List ℕ) (ok : RackFine r) (w : �
 module _ (r : List ℕ) (number : ℕ) (f ds out : List ℕ) where
   -- refused
   pub shows-refused : (n : ℕ) → n ≡ refusalOf r number (length ds) (length out) → (n ≡ 0 → ⊥)
-      → Shows (eventOf r number f ds out) (record { number = n; answered = 0; length = 0 }) r out
+      → Replied r number f ds out (record { number = n; answered = 0; length = 0 }) r out
   unfolding eventOf
-  shows-refused n q h = rw (← q, ne-eqb _ _ h) (refl, (refl, refl))
+  shows-refused n q h = record { reports = rw (← q, ne-eqb _ _ h) refl; leaves = rw (← q, ne-eqb _ _ h) refl; writes = rw (← q, ne-eqb _ _ h) refl }
 
   -- not refused: a tags answered, and the rack is xs
   module _ (none : refusalOf r number (length ds) (length out) ≡ 0) (event : Event) (is : event ≡ aired number f) (a w : ℕ) (said : Said) (xs : List ℕ)
@@ -165,15 +161,15 @@ module _ (r : List ℕ) (number : ℕ) (f ds out : List ℕ) where
     goes-on = rw (eq-eqb _ _ none) (ap (λ (t : Event). played r t ds out) (sym is))
 
     -- none answered, or several
-    pub shows-silent : (a ≡ 1 → ⊥) → Shows (eventOf r number f ds out) (record { number = 0; answered = a; length = 0 }) xs out
+    pub shows-silent : (a ≡ 1 → ⊥) → Replied r number f ds out (record { number = 0; answered = a; length = 0 }) xs out
     unfolding answers
     shows-silent z =
         let n = not-alone (gather (countOf r) (answer r event ds)) out (λ (y : length (gather (countOf r) (answer r event ds)) ≡ 1). z (h .count ∙ y)) in
-        rw goes-on (cc (h .count, n .0), (x, n .1))
+        record { reports = rw goes-on (cc (h .count, n .0)); leaves = rw goes-on x; writes = rw goes-on (n .1) }
 
     -- one answered, and its frame, n bytes, was written over the front of the answer buffer
     pub shows-alone : a ≡ 1 → (n : ℕ) (o : List ℕ) → n ≡ length (frameOf said (bodyOf xs w)) → o ≡ sets out 0 (frameOf said (bodyOf xs w))
-        → Shows (eventOf r number f ds out) (record { number = 0; answered = 1; length = n }) xs o
+        → Replied r number f ds out (record { number = 0; answered = 1; length = n }) xs o
     unfolding answers
     shows-alone z n o le oe =
         let may = playable r number (length ds) (length out) none in
@@ -181,11 +177,13 @@ module _ (r : List ℕ) (number : ℕ) (f ds out : List ℕ) where
         let one : gather (countOf r) (answer r event ds) ≡ frameOf said (bodyAt r w) ∷ [] = h .alone z .one in
         let fits : length (frameOf said (bodyAt r w)) ≤ length out =
         rw told at (fits-told r event ds (may .rack) w said xs (h .alone z) x (may .space)) in
-        rw (goes-on, one) (rw (le, told), (x, rw (oe, told) (sets-front (frameOf said (bodyAt r w)) out fits)))
+        record {
+          reports = rw (goes-on, one) (rw (le, told));
+          leaves = rw goes-on x;
+          writes = rw (goes-on, one) (rw (oe, told) (sets-front (frameOf said (bodyAt r w)) out fits));
+        }
 
--- ---- two outcomes that satisfy the statement of an event are equal
-pub only-one : (r : List ℕ) (number : ℕ) (f ds out : List ℕ) (report report′ : Report) (rack rack′ answer answer′ : List ℕ)
-    → Shows (eventOf r number f ds out) report rack answer → Shows (eventOf r number f ds out) report′ rack′ answer′
-    → (report ≡ report′) × ((rack ≡ rack′) × (answer ≡ answer′))
-only-one r number f ds out report report′ rack rack′ answer answer′ p q =
-    (p .0 ∙ sym (q .0), (p .1 .0 ∙ sym (q .1 .0), p .1 .1 ∙ sym (q .1 .1)))
+-- ---- two replies that meet the statement of an event are equal
+pub only-one : (r : List ℕ) (number : ℕ) (f ds out : List ℕ) (v w : Report) (r₁ r₂ out₁ out₂ : List ℕ)
+    → Replied r number f ds out v r₁ out₁ → Replied r number f ds out w r₂ out₂ → (v ≡ w) × ((r₁ ≡ r₂) × (out₁ ≡ out₂))
+only-one r number f ds out v w r₁ r₂ out₁ out₂ p q = (p .reports ∙ sym (q .reports), (p .leaves ∙ sym (q .leaves), p .writes ∙ sym (q .writes)))

@@ -1,4 +1,5 @@
 -- Document 01, "Events" and "Numbers a call can come back with": what an event does to a rack, and what it reports. Assumes nothing.
+use mathlib.Core.Path.{_≡_}
 use mathlib.Core.Bool.{Bool, false, not, _&&_}
 use mathlib.Core.List.{List, [], _∷_, _++_}
 use Prim.Native.Nat.{ℕ}
@@ -122,3 +123,9 @@ unfoldable pub eventOf : List ℕ → ℕ → List ℕ → List ℕ → List ℕ
 eventOf r number f ds out =
     if eqb (refusalOf r number (length ds) (length out)) 0 then played r (aired number f) ds out
     else refused (refusalOf r number (length ds) (length out)) r out
+
+-- one reply alone: what the call reports, and what it leaves in the rack and in the answer buffer
+pub record Replied (r : List ℕ) (number : ℕ) (f ds out : List ℕ) (report : Report) (r₁ out₁ : List ℕ) : Type 0 where
+  pub reports : report ≡ eventOf r number f ds out .report
+  pub leaves : r₁ ≡ eventOf r number f ds out .rack
+  pub writes : out₁ ≡ eventOf r number f ds out .out

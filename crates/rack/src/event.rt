@@ -19,7 +19,7 @@ ghost use lib.Seq.{sets};
 ghost use Rattle.frame.specs.Number.{part, splice};
 ghost use Rattle.rack.specs.File.{countOf, kindOf};
 ghost use Rattle.rack.specs.Facts.{RackFine, TagFine, Tellable, bodyOf};
-ghost use Rattle.rack.specs.Event.{carrying, nextBody, saidBy, frameOf, nextRack, refusalOf, eventOf};
+ghost use Rattle.rack.specs.Event.{carrying, nextBody, saidBy, frameOf, nextRack, refusalOf, Replied};
 ghost use Rattle.rack.specs.Pass.{PassOf};
 
 // The room that every answer buffer has.
@@ -127,9 +127,8 @@ fn tell(rack: &[u8], i: usize, said: Said, answer: &mut [u8]) -> usize
 
 // Plays an event: 1 field off, 2 field on, 3 label frame, 4 bare end of frame, 5 chip frame.
 pub fn event(rack: &mut [u8], number: u8, frame: &[u8], draws: &[u8], answer: &mut [u8]) -> Report
-    ensures { λ r. ⌜ r ≡ eventOf (now (rack .entry)) number (now (frame .entry)) (now (draws .entry)) (now (answer .entry)) .report ⌝ }
-    ensures { λ r. ⌜ now (rack .exit) ≡ eventOf (now (rack .entry)) number (now (frame .entry)) (now (draws .entry)) (now (answer .entry)) .rack ⌝ }
-    ensures { λ r. ⌜ now (answer .exit) ≡ eventOf (now (rack .entry)) number (now (frame .entry)) (now (draws .entry)) (now (answer .entry)) .out ⌝ }
+    ensures { λ r. ⌜ Replied (now (rack .entry)) number (now (frame .entry)) (now (draws .entry)) (now (answer .entry)) r (now (rack .exit))
+        (now (answer .exit)) ⌝ }
 {
     let refusal = refuse(rack, number, draws.len(), answer.len());
     if refusal != 0 {

@@ -10,7 +10,7 @@ use reader::told::tell;
 use reader::writer::Written;
 ghost use mathlib.Core.Path.{_≡_};
 ghost use Rattle.frame.specs.CheckSum.{crcOf};
-ghost use Rattle.rack.specs.Event.{eventOf};
+ghost use Rattle.rack.specs.Event.{Replied};
 ghost use Rattle.inventory.specs.Promise.{Reply};
 ghost use Rattle.reader.specs.Request.{Wrote};
 ghost use Rattle.reader.specs.Answer.{readingOf};
@@ -26,9 +26,8 @@ pub extern "C" fn sackbutflare_event(
     draws: &[u8],
     answer: &mut [u8],
 ) -> Report
-    ensures { λ r. ⌜ r ≡ eventOf (now (rack .entry)) number (now (frame .entry)) (now (draws .entry)) (now (answer .entry)) .report ⌝ }
-    ensures { λ r. ⌜ now (rack .exit) ≡ eventOf (now (rack .entry)) number (now (frame .entry)) (now (draws .entry)) (now (answer .entry)) .rack ⌝ }
-    ensures { λ r. ⌜ now (answer .exit) ≡ eventOf (now (rack .entry)) number (now (frame .entry)) (now (draws .entry)) (now (answer .entry)) .out ⌝ }
+    ensures { λ r. ⌜ Replied (now (rack .entry)) number (now (frame .entry)) (now (draws .entry)) (now (answer .entry)) r (now (rack .exit))
+        (now (answer .exit)) ⌝ }
 {
     rack::event::event(rack, number, frame, draws, answer)
 }

@@ -10,7 +10,7 @@ returns c =
     let o = c .before .before .before .before .before in
     let d = o .before .before .before .before in
     let a = d .before .before .before .before .before .args in
-    event-left _ (now (a .tags)) (now (a .frame)) (now (a .draws)) (a .number) _ (d .draws-for .ensures) (o .event .ensures .1 .0)
+    event-left _ (now (a .tags)) (now (a .frame)) (now (a .draws)) (a .number) _ (d .draws-for .ensures) (o .event .ensures .leaves)
 
 pub play-event-spec : {M : Type 1} → statement M
 play-event-spec =
