@@ -1,41 +1,55 @@
--- What the hospital's floor asked of a label, over any request: the UID and the numbers stay, what is locked stays, a label that is quiet or off keeps still.
--- By the ways of the step. Assumes nothing.
+-- What the hospital's floor asked of a label, over any request: the UID and the numbers stay, what is locked stays, an error changes nothing; and over frames
+-- and events: who is quiet or off keeps still, another's Select, a mask of 60 bits. By the ways of the step. Assumes nothing.
 use mathlib.Core.Path.{_≡_, refl, sym, ap, _∙_}
 use mathlib.Core.Logic.{inl, inr, ⊎-elim}
-use mathlib.Core.Bool.{Bool, true}
-use mathlib.Core.List.{List}
-use Prim.Native.Nat.{ℕ, _+_, _/_, _%_, _^_, _≤_, _<_}
+use mathlib.Core.Bool.{Bool, true, false, _&&_, false≢true}
+use mathlib.Core.List.{List, _∷_}
+use Prim.Native.Nat.{ℕ, suc, _+_, _*_, _/_, _%_, _^_, _≤_, _<_}
+use native.Mathlib.Nat.{zero-add, mod-eq-of-lt}
+use native.Mathlib.Numerals.{add-one}
 use native.Mathlib.Omega.{arith}
 use lib.Dec.{eqb}
-use lib.ListN.{length, getD}
-use borrow.Author.Tests.{ne-eqb}
-use Rattle.frame.specs.Choose.{bit}
-use Rattle.frame.specs.Number.{num, part, Bytes}
-use Rattle.frame.proofs.Bools.{below-or-not, same-or-not, if-both}
+use lib.ListN.{length, getD, length-take}
+use borrow.Author.Tests.{eqb-true, ne-eqb}
+use Rattle.frame.specs.Choose.{if_then_else_, bit, set?}
+use Rattle.frame.specs.Number.{num, bytesOf, part, Bytes}
+use Rattle.frame.specs.CheckSum.{framed}
+use Rattle.frame.specs.Ending.{endsIn, endsInSlot, longer, bytesFor}
+use Rattle.frame.proofs.Bools.{and-both, below-or-not, same-or-not, if-either, if-both}
+use Rattle.frame.proofs.Ending.{ends-longer}
+use Rattle.frame.proofs.Numbers.{num-lt, bytes-part}
 use Rattle.frame.proofs.Stores.{sets-off, part-off, part-ext}
+use Rattle.request.specs.Label.{flag, bare, decode, heard}
+use Rattle.request.specs.Table.{rowOf}
 use Rattle.request.specs.declared.label.Target.{Target}
-use Rattle.request.specs.declared.label.Target.the-variants as t
-use Rattle.request.specs.declared.label.Family.{Family}
-use Rattle.request.specs.declared.table.Task.the-variants.{Select}
+use Rattle.request.specs.declared.label.Family.the-variants.{Any}
+use Rattle.request.specs.declared.table.Task.{Task}
+use Rattle.request.specs.declared.table.Task.the-variants as x
+use Rattle.request.specs.declared.table.Task.the-variants.{Write}
 use Rattle.request.specs.declared.label.Call.{Call}
 use Rattle.request.specs.declared.label.Call.the-variants.{Ignored, Off, On, EndOfFrame, Nobody, Inventory, Fault, Do}
 use Rattle.request.specs.declared.label.Request.{Request}
+use Rattle.request.proofs.LabelSound.{flagged-ends, decode-ends}
+use Rattle.request.proofs.LabelFramed.{select-back, sixteen-back}
 use Rattle.label.specs.declared.step.Label.{Label}
+use Rattle.label.specs.declared.step.Answer.{Answer}
 use Rattle.label.specs.declared.step.Answer.the-variants as a
 use Rattle.label.specs.declared.step.Work.{Work}
 use Rattle.label.specs.declared.step.Work.the-variants as w
 use Rattle.label.specs.declared.step.Stepped.{Stepped}
-use Rattle.label.specs.Step.{withState, ended, silent, ready, heeds, inventory, acts, passed, asked, faulted, called, act}
-use Rattle.request.specs.Table.{rowOf}
+use Rattle.label.specs.Step.{withState, withSlot, ended, told, silent, failed, fieldOff, ready, heeds, turn, inventory, acts, perform, passed, asked}
+use Rattle.label.specs.Step.{faulted, awake, called, act}
 use Rattle.label.specs.Locks.{lockOn}
 use Rattle.label.specs.Body.{loadOf, storeOf, worked, stepped, nextLabel, saidLabel, named, Sized, blocksOf, sizeOf, blockAt}
-use Rattle.label.specs.Slots.{clear}
+use Rattle.label.specs.Facts.{LabelFine, WorkFits}
+use Rattle.label.specs.Slots.{takesPart, clear}
 use Rattle.label.proofs.LocksLaws.{lock-same, with-length, with-behind, with-own, with-other}
-use Rattle.label.proofs.BodyRoom.{locks-fit, locks-before, block-next, block-after}
+use Rattle.label.proofs.BodyRoom.{sized-long, locks-fit, locks-before, block-next, block-after}
 use Rattle.label.proofs.BodyStored.{stored-between, stored-lock, stored-uid, stored-part, stored-place, stored-sized, stored-dsfid, stored-afi}
 use Rattle.label.proofs.BodyStored.{stored-locks, stored-state, store-load}
 use Rattle.label.proofs.BodyWorked.{worked-below, worked-part}
-use Rattle.label.proofs.Slots.{store-ended, next-silent, said-silent}
+use Rattle.label.proofs.StepFits.{step-fits}
+use Rattle.label.proofs.Slots.{store-ended, next-silent, said-turn, said-silent, end-more, end-none, clear-own, said-first}
 use Rattle.label.proofs.StepWays.{Way, stays, offs, wakes, moves, starts, says, hushes, selects, readies, drops, writes, locks}
 use Rattle.label.proofs.StepWays.{afis, dsfids, afiLocks, dsfidLocks, way}
 
@@ -209,68 +223,269 @@ module _ (r : Request) (bytes b : List ℕ) (long : 25 ≤ length b) where
       let q = low-stays 10 (omega arith) (s .next .locks) (stored-locks b (s .next) long) in
       (low-stays 8 (omega arith) (getD b 8 0) (stored-dsfid b (s .next) long ∙ p .0), ap (bit 1) q ∙ p .1)
 
--- ---- quiet, another's Select, off
+-- ---- quiet, another's Select
 
--- state 2: an Inventory is not answered, and starts no slot
-module _ (uid : List ℕ) (family : Family) (sixteen : Bool) (bits mask : ℕ) (b : List ℕ) (q : getD b 14 0 ≡ 2) where
-  quiet-stepped : (n : ℕ) → stepped (record { uid = uid; call = Inventory family sixteen bits mask }) n b ≡ silent (ended (loadOf b))
-  unfolding stepped act called inventory heeds ready loadOf
-  quiet-stepped n = rw q
+-- state 2: a frame with the Inventory flag is not answered, and starts no slot, whatever stands in it
+quiet-called : (f uid : List ℕ) (n lock : ℕ) (l : Label) → l .state ≡ 2 → set? (flag 2 f) ≡ true → called (decode f .call) uid n lock l ≡ silent (ended l)
+unfolding called inventory heeds ready
+quiet-called f uid n lock l q h =
+    flagged-ends (λ (call : Call). called call uid n lock l ≡ silent (ended l)) f (rw q) (λ family sixteen at m. rw q) h
 
-  pub quiet-silent : (n : ℕ) → saidLabel (record { uid = uid; call = Inventory family sixteen bits mask }) n b ≡ a.Silent
-  quiet-silent n = said-silent _ n b (ended (loadOf b)) (quiet-stepped n)
+module _ (f b : List ℕ) (q : getD b 14 0 ≡ 2) (h : set? (flag 2 f) ≡ true) where
+  quiet-stepped : (n : ℕ) → stepped (heard 3 f) n b ≡ silent (ended (loadOf b))
+  unfolding stepped act heard loadOf
+  quiet-stepped n = quiet-called f (decode f .uid) n (named (decode f .call) b) (loadOf b) q h
 
-  pub quiet-still : (bytes : List ℕ) → nextLabel (record { uid = uid; call = Inventory family sixteen bits mask }) bytes b ≡ clear b
-  quiet-still bytes = next-silent _ bytes b (ended (loadOf b)) (quiet-stepped (length bytes)) ∙ store-ended b
+  pub quiet-silent : (n : ℕ) → saidLabel (heard 3 f) n b ≡ a.Silent
+  quiet-silent n = said-silent (heard 3 f) n b (ended (loadOf b)) (quiet-stepped n)
+
+  pub quiet-still : (bytes : List ℕ) → nextLabel (heard 3 f) bytes b ≡ clear b
+  quiet-still bytes = next-silent (heard 3 f) bytes b (ended (loadOf b)) (quiet-stepped (length bytes)) ∙ store-ended b
+
+-- and it is in no slot
+quiet-none : (n : ℕ) (b : List ℕ) → LabelFine b → getD b 14 0 ≡ 2 → stepped (bare EndOfFrame) n b ≡ silent (loadOf b)
+unfolding stepped act called loadOf
+quiet-none n b ok q =
+    end-none (loadOf b)
+    (⊎-elim (λ (e : getD b 15 0 ≡ 255). e)
+    (λ (e : getD b 15 0 ≡ 255 → ⊥). let x = ok .ready e (λ y. omega arith) in absurd (omega arith))
+    (same-or-not (getD b 15 0) 255))
+
+pub quiet-end : (f : List ℕ) (n : ℕ) (b : List ℕ) → LabelFine b → getD b 14 0 ≡ 2 → saidLabel (heard 4 f) n b ≡ a.Silent
+unfolding heard
+quiet-end f n b ok q = said-silent (bare EndOfFrame) n b (loadOf b) (quiet-none n b ok q)
 
 -- state 3: Select for another UID readies it, silently
-module _ (uid : List ℕ) (p : ℕ) (option : Bool) (b : List ℕ) (long : 25 ≤ length b) (q : getD b 14 0 ≡ 3) (other : num uid ≡ num (part 0 8 b) → ⊥) where
-  other-stepped : (n : ℕ) → stepped (record { uid = uid; call = Do t.One Select p option }) n b ≡ silent (withState 1 (ended (loadOf b)))
-  unfolding stepped act called asked acts passed rowOf ended loadOf
-  other-stepped n = rw (ne-eqb (num uid) (num (part 0 8 b)) other, q)
+module _ (flags : ℕ) (uid b : List ℕ) (h : flags / 4 ≡ 8) (l : length uid ≡ 8) (q : getD b 14 0 ≡ 3) (other : num uid ≡ num (part 0 8 b) → ⊥) where
+  abbrev selecting : Request
+  selecting = heard 3 (framed (flags ∷ 0x25 ∷ uid))
 
-  pub select-other : (bytes : List ℕ) → getD (nextLabel (record { uid = uid; call = Do t.One Select p option }) bytes b) 14 0 ≡ 1
-  select-other bytes =
-      ap (λ (x : List ℕ). getD x 14 0) (next-silent _ bytes b (withState 1 (ended (loadOf b))) (other-stepped (length bytes)))
+  other-stepped : (n : ℕ) → stepped selecting n b ≡ silent (withState 1 (ended (loadOf b)))
+  unfolding stepped act called asked acts passed rowOf ended loadOf heard
+  other-stepped n = rw (select-back flags uid h l, ne-eqb (num uid) (num (part 0 8 b)) other, q)
+
+  pub select-other : (bytes : List ℕ) → 25 ≤ length b → getD (nextLabel selecting bytes b) 14 0 ≡ 1
+  select-other bytes long =
+      ap (λ (x : List ℕ). getD x 14 0) (next-silent selecting bytes b (withState 1 (ended (loadOf b))) (other-stepped (length bytes)))
       ∙ stored-state b (withState 1 (ended (loadOf b))) long
 
-  pub select-other-silent : (n : ℕ) → saidLabel (record { uid = uid; call = Do t.One Select p option }) n b ≡ a.Silent
-  select-other-silent n = said-silent _ n b (withState 1 (ended (loadOf b))) (other-stepped n)
+  pub select-other-silent : (n : ℕ) → saidLabel selecting n b ≡ a.Silent
+  select-other-silent n = said-silent selecting n b (withState 1 (ended (loadOf b))) (other-stepped n)
 
--- state 0, document 01, "Events": every call but Off and On is ignored. `off-silent` and `off-ignores` are statements, which nothing cites
-off-called : (call : Call) (uid : List ℕ) (n lock : ℕ) (l : Label) → eqb (l .state) 0 ≡ true → (call ≡ Off → ⊥) → (call ≡ On → ⊥)
-    → called call uid n lock l ≡ silent l
+-- ---- a mask of 60 bits and its slot are the whole UID
+
+ends-true : (u : List ℕ) (mask bits : ℕ) → endsIn u mask bits ≡ true → num u % 2 ^ bits ≡ mask
+unfolding endsIn
+ends-true u mask bits e = eqb-true (num u % 2 ^ bits) mask e
+
+whole-uid : (u : List ℕ) (mask slot : ℕ) → num u < 2 ^ 64 → mask < 2 ^ 60 → endsInSlot u mask 60 slot ≡ true → num u ≡ slot * 2 ^ 60 + mask
+whole-uid u mask slot h m e = sym (mod-eq-of-lt h) ∙ ends-true u (longer mask 60 slot) 64 (ends-longer u mask 60 slot m ∙ e)
+
+-- one that is found
+found-by : (t : Bool) → ((if t then a.Found else a.Silent) ≡ a.Silent → ⊥) → t ≡ true
+found-by true h = refl
+found-by false h = absurd (h refl)
+
+module _ (b : List ℕ) (bs : Bytes b) (ok : LabelFine b) where
+  uid-small : num (part 0 8 b) < 2 ^ 64
+  uid-small = num-lt 8 (part 0 8 b) (bytes-part 0 8 b bs) (rw (length-take 8 b) (omega arith))
+
+  module _ (m : getD b 16 0 ≡ 60) (h : getD b 15 0 < 15) where
+    slot-awake : eqb (getD b 14 0) 0 ≡ false
+    slot-awake = ne-eqb (getD b 14 0) 0 (λ z. let x = ok .ready (λ y. omega arith) (λ y. omega arith) in omega arith)
+
+    slot-stepped : (n : ℕ) → stepped (bare EndOfFrame) n b ≡ turn (withSlot (getD b 15 0 + 1) 60 (num (part 17 8 b)) (loadOf b))
+    unfolding stepped act called loadOf
+    slot-stepped n = end-more (loadOf b) slot-awake h ∙ rw m
+
+    -- at an end of frame
+    pub whole-at-end : (f : List ℕ) (n : ℕ) → (saidLabel (heard 4 f) n b ≡ a.Silent → ⊥)
+        → num (part 0 8 b) ≡ suc (getD b 15 0) * 2 ^ 60 + num (part 17 8 b)
+    unfolding heard loadOf
+    whole-at-end f n z =
+        let s = getD b 15 0 in
+        let e = num (part 17 8 b) in
+        let low : e < 2 ^ 60 = rw m at (ok .mask) in
+        let said = said-turn (bare EndOfFrame) n b (withSlot (s + 1) 60 e (loadOf b)) (slot-stepped n) in
+        let t = found-by (endsInSlot (part 0 8 b) e 60 (s + 1)) (λ x. z (said ∙ x)) in
+        whole-uid (part 0 8 b) e (suc s) uid-small low (ap (endsInSlot (part 0 8 b) e 60) (sym (add-one s)) ∙ t)
+
+  -- at the Inventory itself: slot 0
+  pub whole-at-start : (mask n : ℕ) → mask < 2 ^ 60 → (saidLabel (heard 3 (framed (6 ∷ 1 ∷ 60 ∷ bytesOf 8 mask))) n b ≡ a.Silent → ⊥) → num (part 0 8 b) ≡ mask
+  unfolding heard bytesFor
+  whole-at-start mask n h z =
+      let said = ap (λ (r : Request). saidLabel r n b) (sixteen-back 60 mask h (omega arith)) ∙ said-first Any 60 mask n b in
+      let t = found-by (takesPart Any b && endsInSlot (part 0 8 b) mask 60 0) (λ x. z (said ∙ x)) in
+      whole-uid (part 0 8 b) mask 0 uid-small h (and-both (takesPart Any b) (endsInSlot (part 0 8 b) mask 60 0) t .1) ∙ zero-add mask
+
+-- ---- errors
+
+-- document 01, "Labels": an error answer changes nothing; a statement, which nothing cites
+abbrev errs : Answer → Bool
+errs a.Silent = false
+errs (a.Error code) = true
+errs a.Done = false
+errs a.Found = false
+errs (a.Block n lock) = false
+errs a.Info = false
+
+way-error : {call : Call} {count lock : ℕ} {l : Label} {s : Stepped} (code : ℕ) → Way call count lock l s → s .answer ≡ a.Error code
+    → s ≡ failed code (ended l)
+way-error code stays e = absurd (false≢true (ap errs e))
+way-error code offs e = absurd (false≢true (ap errs e))
+way-error code (wakes x) e = absurd (false≢true (ap errs e))
+way-error code (moves true x) e = absurd (false≢true (ap errs e))
+way-error code (moves false x) e = absurd (false≢true (ap errs e))
+way-error code (starts true m c x y) e = absurd (false≢true (ap errs e))
+way-error code (starts false m c x y) e = absurd (false≢true (ap errs e))
+way-error {l = l} code (says x y) e = ap (λ (z : Answer). told z (ended l)) e
+way-error code hushes e = absurd (false≢true (ap errs e))
+way-error code selects e = absurd (false≢true (ap errs e))
+way-error code readies e = absurd (false≢true (ap errs e))
+way-error code drops e = absurd (false≢true (ap errs e))
+way-error code (writes m x y z u) e = absurd (false≢true (ap errs e))
+way-error code (locks m x y z) e = absurd (false≢true (ap errs e))
+way-error code (afis v x y) e = absurd (false≢true (ap errs e))
+way-error code (dsfids v x y) e = absurd (false≢true (ap errs e))
+way-error code (afiLocks x) e = absurd (false≢true (ap errs e))
+way-error code (dsfidLocks x) e = absurd (false≢true (ap errs e))
+
+-- whatever the error: the body stays, but for its slot sequence, which every frame ends
+pub error-stays : (r : Request) (bytes b : List ℕ) (code : ℕ) → saidLabel r (length bytes) b ≡ a.Error code → nextLabel r bytes b ≡ clear b
+unfolding nextLabel saidLabel stepped worked
+error-stays r bytes b code e =
+    ap (λ (s : Stepped). worked (s .work) bytes (storeOf b (s .next)))
+    (way-error code (way r (length bytes) (named (r .call) b) (loadOf b)) e)
+    ∙ store-ended b
+
+-- a frame that is at fault before any label is looked at: one that is selected stays so, whether it answers or not
+pub fault-stays : (uid : List ℕ) (to : Target) (code : ℕ) (bytes b : List ℕ) → Bytes b → LabelFine b
+    → nextLabel (record { uid = uid; call = Fault to code }) bytes b ≡ clear b
+unfolding nextLabel worked stepped act called faulted loadOf
+fault-stays uid to code bytes b bs ok =
+    let long : 25 ≤ length b = omega (arith, sized-long b (ok .sized)) in
+    if-either Clears (eqb (getD b 14 0) 0) _ _ (λ e. store-load b bs long ∙ sym (clear-own b bs ok (eqb-true (getD b 14 0) 0 e)))
+    (λ e. if-both Clears (acts to uid (loadOf b)) (store-ended b) (store-ended b))
+  where
+    Clears : Stepped → Type 0
+    Clears s = worked (s .work) bytes (storeOf b (s .next)) ≡ clear b
+
+-- ---- events that leave a label as it is
+
+-- nothing said, and the body unchanged
+abbrev pub Ignores : Request → List ℕ → List ℕ → Type 0
+Ignores r bytes b = (saidLabel r (length bytes) b ≡ a.Silent) × (nextLabel r bytes b ≡ b)
+
+module _ (bytes b : List ℕ) (bs : Bytes b) (long : 25 ≤ length b) where
+  by-step : (r : Request) → stepped r (length bytes) b ≡ silent (loadOf b) → Ignores r bytes b
+  by-step r e = (said-silent r (length bytes) b (loadOf b) e, next-silent r bytes b (loadOf b) e ∙ store-load b bs long)
+
+  unasked : Ignores (bare Ignored) bytes b
+  unfolding stepped act called
+  unasked = by-step (bare Ignored) refl
+
+  -- document 01, "Events": labels ignore 5; a statement, which nothing cites
+  pub ignores-5 : (f : List ℕ) → Ignores (heard 5 f) bytes b
+  unfolding heard
+  ignores-5 f = unasked
+
+-- state 0: no frame is heard
+off-called : (f uid : List ℕ) (n lock : ℕ) (l : Label) → eqb (l .state) 0 ≡ true → called (decode f .call) uid n lock l ≡ silent l
 unfolding called
-off-called Ignored uid n lock l q f g = refl
-off-called Off uid n lock l q f g = absurd (f refl)
-off-called On uid n lock l q f g = absurd (g refl)
-off-called EndOfFrame uid n lock l q f g = rw q
-off-called (Inventory family sixteen bits mask) uid n lock l q f g = rw q
-off-called Nobody uid n lock l q f g = rw q
-off-called (Fault to code) uid n lock l q f g = rw q
-off-called (Do to task p option) uid n lock l q f g = rw q
+off-called f uid n lock l q =
+    decode-ends (λ (call : Call). called call uid n lock l ≡ silent l) f (rw q) (λ family sixteen at h. rw q) (λ to code. rw q)
+    (λ to task at option. rw q)
 
-module _ (r : Request) (b : List ℕ) (q : getD b 14 0 ≡ 0) (f : r .call ≡ Off → ⊥) (g : r .call ≡ On → ⊥) where
-  off-stepped : (n : ℕ) → stepped r n b ≡ silent (loadOf b)
-  unfolding stepped act loadOf
-  off-stepped n = off-called (r .call) (r .uid) n (named (r .call) b) (loadOf b) (rw q) f g
+-- document 01, "Events": tags in state 0 ignore everything but field on; a statement, which nothing cites
+module _ (bytes b : List ℕ) (bs : Bytes b) (ok : LabelFine b) (q : getD b 14 0 ≡ 0) where
+  big : 25 ≤ length b
+  big = omega (arith, sized-long b (ok .sized))
 
-  pub off-silent : (n : ℕ) → saidLabel r n b ≡ a.Silent
-  off-silent n = said-silent r n b (loadOf b) (off-stepped n)
+  asleep : eqb (loadOf b .state) 0 ≡ true
+  unfolding loadOf
+  asleep = rw q
 
-  pub off-ignores : (bytes : List ℕ) → Bytes b → 25 ≤ length b → nextLabel r bytes b ≡ b
-  off-ignores bytes c long = next-silent r bytes b (loadOf b) (off-stepped (length bytes)) ∙ store-load b c long
+  -- field off finds it as it leaves it
+  off-stepped : stepped (bare Off) (length bytes) b ≡ silent (ended (loadOf b))
+  unfolding stepped act called fieldOff ended loadOf
+  off-stepped = rw q
 
--- a frame that is at fault before any label is looked at moves no state: one that is selected stays so (a statement, which nothing cites)
-module _ (uid : List ℕ) (to : Target) (code : ℕ) (b : List ℕ) where
-  fault-state : (n : ℕ) → stepped (record { uid = uid; call = Fault to code }) n b .next .state ≡ getD b 14 0
-  unfolding stepped act called faulted ended loadOf
-  fault-state n = if-both Keeps (eqb (getD b 14 0) 0) refl (if-both Keeps (acts to uid (loadOf b)) refl refl)
-    where
-      Keeps : Stepped → Type 0
-      Keeps s = s .next .state ≡ getD b 14 0
+  off-again : Ignores (bare Off) bytes b
+  off-again = (
+    said-silent (bare Off) (length bytes) b (ended (loadOf b)) off-stepped,
+    next-silent (bare Off) bytes b (ended (loadOf b)) off-stepped ∙ store-ended b ∙ clear-own b bs ok q,
+  )
 
-  pub fault-stays : (bytes : List ℕ) → 25 ≤ length b → getD (nextLabel (record { uid = uid; call = Fault to code }) bytes b) 14 0 ≡ getD b 14 0
-  fault-stays bytes long =
-      let r : Request = record { uid = uid; call = Fault to code } in
-      low-stays r bytes b long 14 (omega arith) (getD b 14 0) (stored-state b (stepped r (length bytes) b .next) long ∙ fault-state (length bytes))
+  off-frame : (f : List ℕ) → Ignores (decode f) bytes b
+  unfolding stepped act
+  off-frame f = by-step bytes b bs big (decode f) (off-called f (decode f .uid) (length bytes) (named (decode f .call) b) (loadOf b) asleep)
+
+  off-end : Ignores (bare EndOfFrame) bytes b
+  unfolding stepped act called
+  off-end = by-step bytes b bs big (bare EndOfFrame) (rw asleep)
+
+  pub off-ignores : (number : ℕ) (f : List ℕ) → (number ≡ 2 → ⊥) → Ignores (heard number f) bytes b
+  unfolding heard
+  off-ignores number f n =
+      let P : Request → Type 0 = λ r. Ignores r bytes b in
+      if-both P (eqb number 1) off-again
+      (if-either P (eqb number 2) _ _ (λ e. absurd (n (eqb-true number 2 e)))
+      (λ e. if-both P (eqb number 3) (off-frame f) (if-both P (eqb number 4) off-end (unasked bytes b bs big))))
+
+-- ---- bytes sent matter to a write alone
+
+abbrev Unwriting : Call → Type 0
+Unwriting call = (to : Target) (p : ℕ) (option : Bool) → call ≡ Do to Write p option → ⊥
+
+task-count : (task : Task) (to : Target) (uid : List ℕ) (p : ℕ) (option : Bool) (n m lock : ℕ) (l : Label) → Unwriting (Do to task p option)
+    → asked to uid task p option n lock l ≡ asked to uid task p option m lock l
+unfolding asked perform
+task-count x.Quiet to uid p option n m lock l z = refl
+task-count x.Read to uid p option n m lock l z = refl
+task-count x.Write to uid p option n m lock l z = absurd (z to p option refl)
+task-count x.Lock to uid p option n m lock l z = refl
+task-count x.Select to uid p option n m lock l z = refl
+task-count x.Ready to uid p option n m lock l z = refl
+task-count x.WriteAfi to uid p option n m lock l z = refl
+task-count x.LockAfi to uid p option n m lock l z = refl
+task-count x.WriteDsfid to uid p option n m lock l z = refl
+task-count x.LockDsfid to uid p option n m lock l z = refl
+task-count x.Info to uid p option n m lock l z = refl
+
+call-count : (call : Call) (uid : List ℕ) (n m lock : ℕ) (l : Label) → Unwriting call → called call uid n lock l ≡ called call uid m lock l
+unfolding called
+call-count Ignored uid n m lock l z = refl
+call-count Off uid n m lock l z = refl
+call-count On uid n m lock l z = refl
+call-count EndOfFrame uid n m lock l z = refl
+call-count (Inventory family sixteen bits mask) uid n m lock l z = refl
+call-count Nobody uid n m lock l z = refl
+call-count (Fault to code) uid n m lock l z = refl
+call-count (Do to task p option) uid n m lock l z = ap (λ (s : Stepped). awake s l) (task-count task to uid p option n m lock l z)
+
+-- a work that does not fit a write of so many bytes is none
+unwritten : (x : Work) (count : ℕ) (b : List ℕ) → (count ≡ sizeOf b → ⊥) → WorkFits x count b → (bytes bytes₂ y : List ℕ) → worked x bytes y ≡ worked x bytes₂ y
+unfolding WorkFits worked
+unwritten w.Nothing count b h g bytes bytes₂ y = refl
+unwritten (w.Write n) count b h g bytes bytes₂ y = absurd (h (g .1))
+unwritten (w.Lock n) count b h g bytes bytes₂ y = refl
+
+-- statements, which nothing cites
+module _ (r : Request) (b : List ℕ) (z : (to : Target) (p : ℕ) (option : Bool) → r .call ≡ Do to Write p option → ⊥) where
+  uncounted : (n m : ℕ) → stepped r n b ≡ stepped r m b
+  unfolding stepped act
+  uncounted n m = call-count (r .call) (r .uid) n m (named (r .call) b) (loadOf b) z
+
+  pub unsent-said : (n m : ℕ) → saidLabel r n b ≡ saidLabel r m b
+  unfolding saidLabel
+  unsent-said n m = ap (λ (s : Stepped). s .answer) (uncounted n m)
+
+  pub unsent-next : (bytes bytes₂ : List ℕ) → nextLabel r bytes b ≡ nextLabel r bytes₂ b
+  unfolding nextLabel
+  unsent-next bytes bytes₂ =
+      let x = storeOf b (loadOf b) in
+      let n = sizeOf x + 1 in
+      let s = stepped r n b in
+      ap (λ (t : Stepped). worked (t .work) bytes (storeOf b (t .next))) (uncounted (length bytes) n)
+      ∙ unwritten (s .work) n x (λ e. omega arith) (step-fits r n b (loadOf b)) bytes bytes₂ (storeOf b (s .next))
+      ∙ ap (λ (t : Stepped). worked (t .work) bytes₂ (storeOf b (t .next))) (uncounted n (length bytes₂))

@@ -142,7 +142,7 @@ module _ (family : Family) (m e n : ℕ) (b : List ℕ) where
   inventory-asleep z = rw z
 
 -- an end of frame, by the slot
-end-more : (l : Label) → eqb (l .state) 0 ≡ false → l .slot < 15 → awake (endOfFrame l) l ≡ turn (withSlot (l .slot + 1) (l .bits) (l .mask) l)
+pub end-more : (l : Label) → eqb (l .state) 0 ≡ false → l .slot < 15 → awake (endOfFrame l) l ≡ turn (withSlot (l .slot + 1) (l .bits) (l .mask) l)
 unfolding endOfFrame
 end-more l h g = rw (h, lt-ltb (l .slot) 15 g)
 
@@ -150,7 +150,7 @@ end-last : (l : Label) → eqb (l .state) 0 ≡ false → l .slot ≡ 15 → awa
 unfolding endOfFrame
 end-last l h g = rw (h, g)
 
-end-none : (l : Label) → l .slot ≡ 255 → awake (endOfFrame l) l ≡ silent l
+pub end-none : (l : Label) → l .slot ≡ 255 → awake (endOfFrame l) l ≡ silent l
 unfolding endOfFrame
 end-none l g = rw (le-ltb (l .slot) 15 (omega arith), ne-eqb (l .slot) 15 (λ z. omega arith)) (if-same (eqb (l .state) 0) (silent l))
 

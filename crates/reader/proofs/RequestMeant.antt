@@ -7,11 +7,9 @@ use mathlib.Core.List.{List, [], _∷_, _++_, append-nil}
 use Prim.Native.Nat.{ℕ, _+_, _-_, _*_, _/_, _%_, _≤_}
 use native.Mathlib.Omega.{arith}
 use lib.ListN.{length, getD}
-use lib.Seq.{take-at, length-take-le}
+use lib.Seq.{length-take-le}
 use borrow.Author.Tests.{eq-eqb, ne-eqb}
-use Rattle.frame.specs.Number.{num, bytesOf}
-use Rattle.frame.specs.CheckSum.{crcOf, framedWith, framed}
-use Rattle.frame.proofs.CheckSumFrames.{length-framed, right-all}
+use Rattle.frame.specs.CheckSum.{framed}
 use Rattle.request.specs.Table.{rowOf}
 use Rattle.request.specs.Label as labels
 use Rattle.request.specs.declared.table.Task.{Task}
@@ -26,6 +24,7 @@ use Rattle.request.specs.Chip as chips
 use Rattle.request.specs.declared.chip.Order.the-variants as c
 use Rattle.request.proofs.TableRows.{RowFine, row-fine}
 use Rattle.request.proofs.LabelFramed.{everyone-back, selected-back, one-back, data-open-back, data-one-back}
+use Rattle.request.proofs.ChipFramed.{short-back, pair-back, long-back}
 use Rattle.request.proofs.LabelFramed.{sixteen-back, one-slot-back, sixteen-afi-back, one-slot-afi-back}
 use Rattle.reader.specs.declared.command.ChipTask.{ChipTask}
 use Rattle.reader.specs.declared.command.ChipTask.the-variants as p
@@ -104,21 +103,7 @@ inventory-meant to option (Only afi) true bits mask uid d v =
 inventory-meant to option (Only afi) false bits mask uid d v =
     let x = valid-inventory to option (Only afi) false bits mask (length d) v in one-slot-afi-back bits mask (x .low) afi (x .short)
 
--- ---- chips: a frame of one byte, of two, of six
-
-short-back : (x : ℕ) → chips.decode (framed (x ∷ [])) ≡ chips.short x
-unfolding chips.decode framedWith
-short-back x = rw (right-all (x ∷ []))
-
-pair-back : (x y : ℕ) → chips.decode (framed (x ∷ y ∷ [])) ≡ chips.pair x y
-unfolding chips.decode framedWith
-pair-back x y = rw (right-all (x ∷ y ∷ []))
-
-long-back : (x y : ℕ) (d : List ℕ) → length d ≡ 4 → chips.decode (framed (x ∷ y ∷ d)) ≡ chips.long x y (num d)
-unfolding chips.decode framedWith
-long-back x y d h =
-    let l : length (framed (x ∷ y ∷ d)) ≡ 8 = omega (arith, length-framed 0xFFFF true (x ∷ y ∷ d)) in
-    rw (right-all (x ∷ y ∷ d), l) (ap (λ (s : List ℕ). chips.long x y (num s)) (take-at d (bytesOf 2 (crcOf (x ∷ y ∷ d))) 4 h))
+-- ---- chips
 
 marker-back : (s : ℕ) → 1 ≤ s → s ≤ 15 → chips.short (s * 16 + 6) ≡ c.Marker s
 unfolding chips.short

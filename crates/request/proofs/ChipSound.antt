@@ -1,7 +1,7 @@
 -- What a chip frame of bytes asks has its numbers in their ranges: by the tests of the definitions.
 -- Assumes nothing.
-use mathlib.Core.Path.{_≡_}
-use mathlib.Core.Bool.{true, not, _&&_, _||_}
+use mathlib.Core.Path.{_≡_, refl}
+use mathlib.Core.Bool.{Bool, true, false, not, _&&_, _||_}
 use mathlib.Core.List.{List}
 use Prim.Native.Nat.{ℕ, _/_, _%_, _^_, _≤_, _<_}
 use native.Mathlib.Omega.{arith}
@@ -11,7 +11,7 @@ use borrow.Author.Tests.{eqb-false}
 use Rattle.frame.specs.Number.{num, part, Bytes}
 use Rattle.frame.specs.CheckSum.{right}
 use Rattle.frame.proofs.Numbers.{word-lt}
-use Rattle.frame.proofs.Bools.{and-both, or-off, if-either}
+use Rattle.frame.proofs.Bools.{and-both, or-off, if-either, if-both}
 use Rattle.request.specs.declared.chip.Order.{Order}
 use Rattle.request.specs.declared.chip.Order.the-variants as o
 use Rattle.request.specs.Chip.{listed, short, pair, long, decode, heard}
@@ -68,3 +68,37 @@ heard-sound number f h =
     if-either Sound (eqb number 1) _ _ (λ g. off)
     (λ g. if-either Sound (eqb number 2) _ _ (λ g. on)
     (λ g. if-either Sound (eqb number 5) _ _ (λ g. decode-sound f h) (λ g. ignored)))
+
+-- ---- a frame asks neither for field off nor for field on
+
+abbrev pub field : Order → Bool
+field o.Ignored = false
+field o.Off = true
+field o.On = true
+field o.Initiate = false
+field o.Pcall = false
+field (o.Marker s) = false
+field (o.Select id) = false
+field o.Completion = false
+field o.Reset = false
+field (o.Read a) = false
+field o.Uid = false
+field (o.Write a w) = false
+
+abbrev Framed : Order → Type 0
+Framed x = field x ≡ false
+
+pub decode-framed : (f : List ℕ) → field (decode f) ≡ false
+unfolding decode short pair long
+decode-framed f =
+    let c = getD f 0 0 in
+    let p = getD f 1 0 in
+    if-both Framed (not (right f)) refl
+    (if-both Framed (eqb (length f) 3)
+    (if-both Framed (eqb c 0x0B) refl
+    (if-both Framed (eqb c 0x0C) refl
+    (if-both Framed (eqb c 0x0F) refl (if-both Framed (not (eqb (c % 16) 6) || eqb (c / 16) 0) refl refl))))
+    (if-both Framed (eqb (length f) 4)
+    (if-both Framed (eqb c 0x06) (if-both Framed (eqb p 0) refl (if-both Framed (eqb p 4) refl refl))
+    (if-both Framed (eqb c 0x0E) refl (if-both Framed (eqb c 0x08 && listed p) refl refl)))
+    (if-both Framed (eqb (length f) 8) (if-both Framed (eqb c 0x09 && listed p) refl refl) refl)))

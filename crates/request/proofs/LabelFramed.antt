@@ -21,8 +21,10 @@ use Rattle.request.specs.declared.label.Target.{Target}
 use Rattle.request.specs.declared.label.Target.the-variants.{Everyone, Selected, One}
 use Rattle.request.specs.declared.label.Family.{Family}
 use Rattle.request.specs.declared.label.Family.the-variants.{Any, Only}
-use Rattle.request.specs.declared.label.Call.the-variants.{Inventory}
-use Rattle.request.specs.Label.{bare, most, masked, inventory, call, params, addressed, unaddressed, addressing, decode, dataOf}
+use Rattle.request.specs.declared.label.Call.the-variants.{Inventory, Do}
+use Rattle.request.specs.declared.table.Task.the-variants.{Select}
+use Rattle.request.specs.Table.{rowOf, table, lookup}
+use Rattle.request.specs.Label.{bare, most, masked, inventory, byRow, checked, call, params, addressed, unaddressed, addressing, decode, dataOf}
 
 -- ---- a frame's bytes
 
@@ -101,6 +103,20 @@ module _ (c : ℕ) (ps : List ℕ) where
   unfolding addressing
   one-back true u h = framed-read 98 c (u ++ ps) refl refl ∙ addressed-back c true 98 u ps h
   one-back false u h = framed-read 34 c (u ++ ps) refl refl ∙ addressed-back c false 34 u ps h
+
+-- Select: Address alone, the low two bits any
+pub select-back : (flags : ℕ) (u : List ℕ) → flags / 4 ≡ 8 → length u ≡ 8
+    → decode (framed (flags ∷ 0x25 ∷ u)) ≡ record { uid = u; call = Do One Select 0 false }
+unfolding addressing call checked table rowOf lookup byRow
+select-back flags u h l =
+    let at3 : flags / 2 ^ 3 ≡ 4 = omega arith in
+    let at4 : flags / 2 ^ 4 ≡ 2 = omega arith in
+    let at5 : flags / 2 ^ 5 ≡ 1 = omega arith in
+    let at6 : flags / 2 ^ 6 ≡ 0 = omega arith in
+    let at7 : flags / 2 ^ 7 ≡ 0 = omega arith in
+    ap (λ (s : List ℕ). decode (framed (flags ∷ 0x25 ∷ s))) (sym (append-nil u))
+    ∙ framed-read flags 0x25 (u ++ []) (rw at3) (rw at7)
+    ∙ rw (h, at5, at4, at6) (addressed-back 0x25 false flags u [] l)
 
 -- ---- the bytes of a write
 

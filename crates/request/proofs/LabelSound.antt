@@ -1,7 +1,8 @@
 -- What every decoded request keeps to: masks are short and have no spare bits, bytes to be written are bytes.
--- A property of requests holds of `decode f` where it holds of each of its ends; so the law is one at the ends.
+-- A property of calls holds of `decode f` where it holds of each of its ends; so the law is one at the ends.
 -- Assumes nothing.
-use mathlib.Core.Bool.{Bool, not, _&&_, _||_}
+use mathlib.Core.Path.{_≡_}
+use mathlib.Core.Bool.{Bool, true, not, _&&_, _||_}
 use mathlib.Core.List.{List}
 use Prim.Native.Nat.{ℕ, _+_, _-_, _^_, _≤_, _<_}
 use lib.Dec.{eqb, ltb}
@@ -10,10 +11,11 @@ use borrow.Author.Tests.{ltb-false}
 use Rattle.frame.specs.Choose.{if_then_else_, bit, set?}
 use Rattle.frame.specs.Number.{Bytes}
 use Rattle.frame.specs.CheckSum.{right}
-use Rattle.frame.specs.Ending.{bytesFor}
+use Rattle.frame.specs.Ending.{bytesFor, maskAt}
 use Rattle.frame.proofs.Ending.{mask-lt}
 use Rattle.frame.proofs.Bools.{if-either, if-both}
 use Rattle.frame.proofs.Numbers.{bytes-part}
+use Rattle.request.specs.declared.table.Task.{Task}
 use Rattle.request.specs.declared.table.Row.{Row}
 use Rattle.request.specs.declared.table.Found.{Found}
 use Rattle.request.specs.declared.table.Found.the-variants.{Known, Missing}
@@ -40,82 +42,88 @@ Sound (Fault to code) = Unit
 Sound (Do to task p option) = p < 256
 
 -- ---- the ends of a decoded frame
-module _ (P : Request → Type 0) (f : List ℕ) (none : P nobody) (mask : (family : Family) (sixteen : Bool) (at : ℕ) → P (masked family sixteen at f))
-    (one : (option : Bool) → P (addressed f option)) (free : (to : Target) (option : Bool) → P (unaddressed f to option)) where
-  inventory-ends : P (inventory f)
+module _ (P : Call → Type 0) (f : List ℕ) (none : P Nobody)
+    (asks : (family : Family) (sixteen : Bool) (at : ℕ)
+    → getD f at 0 ≤ most sixteen
+    → P (Inventory family sixteen (getD f at 0) (maskAt f (at + 1) (getD f at 0)))) where
+  abbrev Ends : Request → Type 0
+  Ends r = P (r .call)
+
+  nobody-ends : Ends nobody
+  unfolding nobody
+  nobody-ends = none
+
+  masked-ends : (family : Family) (sixteen : Bool) (at : ℕ) → Ends (masked family sixteen at f)
+  unfolding masked
+  masked-ends family sixteen at =
+      if-either Ends (ltb (most sixteen) (getD f at 0)) nobody _ (λ e. nobody-ends)
+      (λ e.
+      if-both Ends (not (eqb (length f) (at + 3 + bytesFor (getD f at 0)))) nobody-ends
+      (asks family sixteen at (ltb-false (most sixteen) (getD f at 0) e)))
+
+  inventory-ends : Ends (inventory f)
   unfolding inventory
   inventory-ends =
-      if-both P (not (eqb (getD f 1 0) 1)) none
-      (if-both P (set? (flag 6 f)) none
-      (if-both P (set? (flag 4 f)) (mask (Only (getD f 2 0)) (eqb (flag 5 f) 0) 3) (mask Any (eqb (flag 5 f) 0) 2)))
+      if-both Ends (not (eqb (getD f 1 0) 1)) nobody-ends
+      (if-both Ends (set? (flag 6 f)) nobody-ends
+      (if-both Ends (set? (flag 4 f)) (masked-ends (Only (getD f 2 0)) (eqb (flag 5 f) 0) 3) (masked-ends Any (eqb (flag 5 f) 0) 2)))
 
-  addressing-ends : (flags : ℕ) → P (addressing f flags)
-  unfolding addressing
-  addressing-ends flags =
-      if-both P (set? (bit 2 flags)) inventory-ends
-      (if-both P (set? (bit 5 flags) && set? (bit 4 flags)) none
-      (if-both P (set? (bit 5 flags)) (one (set? (bit 6 flags))) (free (if set? (bit 4 flags) then Selected else Everyone) (set? (bit 6 flags)))))
-
-  decode-ends : P (decode f)
+  framed-ends : Ends (addressing f (getD f 0 0)) → Ends (decode f)
   unfolding decode
-  decode-ends =
-      if-both P (ltb (length f) 4) none
-      (if-both P (set? (flag 3 f) || set? (flag 7 f)) none (if-both P (not (right f)) none (addressing-ends (getD f 0 0))))
+  framed-ends h =
+      if-both Ends (ltb (length f) 4) nobody-ends
+      (if-both Ends (set? (flag 3 f) || set? (flag 7 f)) nobody-ends (if-both Ends (not (right f)) nobody-ends h))
 
--- ---- calls
+  -- the Inventory flag set
+  pub flagged-ends : set? (flag 2 f) ≡ true → Ends (decode f)
+  unfolding addressing
+  flagged-ends h = framed-ends (rw h inventory-ends)
 
-abbrev Kept : Request → Type 0
-Kept r = Sound (r .call)
+  -- any frame
+  module _ (fault : (to : Target) (code : ℕ) → P (Fault to code))
+      (does : (to : Target) (task : Task) (at : ℕ) (option : Bool) → P (Do to task (getD (params at f) 0 0) option)) where
+    faulty-ends : (to : Target) (row : Row) (code : ℕ) → P (faulty to row code)
+    faulty-ends to row code = if-both P (hasAnswer (row .success)) (fault to code) none
 
-faulty-sound : (to : Target) (row : Row) (code : ℕ) → Sound (faulty to row code)
-unfolding Sound
-faulty-sound to row code = if-both Sound (hasAnswer (row .success)) tt tt
+    row-ends : (to : Target) (option : Bool) (at : ℕ) (row : Row) → P (byRow to option (params at f) row)
+    unfolding byRow
+    row-ends to option at row =
+        if-both P (not (targetFits row to)) none
+        (if-both P (row .block) (does to (row .task) at option)
+        (if-both P (not (eqb (length (params at f) + 4) (row .len))) (faulty-ends to row 2)
+        (if-both P (not (optionFits row option)) (faulty-ends to row 3) (does to (row .task) at option))))
 
-row-sound : (to : Target) (option : Bool) (ps : List ℕ) (row : Row) → Bytes ps → Sound (byRow to option ps row)
-unfolding byRow Sound
-row-sound to option ps row h =
-    if-both Sound (not (targetFits row to)) tt
-    (if-both Sound (row .block) (h 0)
-    (if-both Sound (not (eqb (length ps + 4) (row .len))) (faulty-sound to row 2)
-    (if-both Sound (not (optionFits row option)) (faulty-sound to row 3) (h 0))))
+    checked-ends : (to : Target) (option : Bool) (at : ℕ) (found : Found) → P (checked to option (params at f) found)
+    unfolding checked
+    checked-ends to option at Missing = fault to 1
+    checked-ends to option at (Known row) = row-ends to option at row
 
-checked-sound : (to : Target) (option : Bool) (ps : List ℕ) (found : Found) → Bytes ps → Sound (checked to option ps found)
-unfolding checked Sound
-checked-sound to option ps Missing h = tt
-checked-sound to option ps (Known row) h = row-sound to option ps row h
+    call-ends : (to : Target) (c : ℕ) (option : Bool) (at : ℕ) → P (call to c option (params at f))
+    unfolding call
+    call-ends to c option at = if-both P (eqb c 1) none (checked-ends to option at (lookup c table))
 
-call-sound : (to : Target) (c : ℕ) (option : Bool) (ps : List ℕ) → Bytes ps → Sound (call to c option ps)
-unfolding call Sound
-call-sound to c option ps h = if-both Sound (eqb c 1) tt (checked-sound to option ps (lookup c table) h)
+    addressing-ends : (flags : ℕ) → Ends (addressing f flags)
+    unfolding addressing addressed unaddressed
+    addressing-ends flags =
+        if-both Ends (set? (bit 2 flags)) inventory-ends
+        (if-both Ends (set? (bit 5 flags) && set? (bit 4 flags)) nobody-ends
+        (if-both Ends (set? (bit 5 flags))
+        (if-both Ends (ltb (length f) 12) nobody-ends (call-ends One (getD f 1 0) (set? (bit 6 flags)) 10))
+        (call-ends (if set? (bit 4 flags) then Selected else Everyone) (getD f 1 0) (set? (bit 6 flags)) 2)))
 
-nobody-sound : Kept nobody
-unfolding nobody Sound
-nobody-sound = tt
-
-masked-sound : (f : List ℕ) (family : Family) (sixteen : Bool) (at : ℕ) → Kept (masked family sixteen at f)
-unfolding masked Sound
-masked-sound f family sixteen at =
-    if-either Kept (ltb (most sixteen) (getD f at 0)) nobody _ (λ e. nobody-sound)
-    (λ e.
-    if-both Kept (not (eqb (length f) (at + 3 + bytesFor (getD f at 0)))) nobody-sound
-    (ltb-false (most sixteen) (getD f at 0) e, mask-lt f (at + 1) (getD f at 0)))
-
-addressed-sound : (f : List ℕ) → Bytes f → (option : Bool) → Kept (addressed f option)
-unfolding addressed Sound
-addressed-sound f h option =
-    if-both Kept (ltb (length f) 12) nobody-sound (call-sound One (getD f 1 0) option (params 10 f) (bytes-part 10 (length f - 2 - 10) f h))
-
-unaddressed-sound : (f : List ℕ) → Bytes f → (to : Target) (option : Bool) → Kept (unaddressed f to option)
-unfolding unaddressed Sound
-unaddressed-sound f h to option = call-sound to (getD f 1 0) option (params 2 f) (bytes-part 2 (length f - 2 - 2) f h)
+    pub decode-ends : Ends (decode f)
+    decode-ends = framed-ends (addressing-ends (getD f 0 0))
 
 pub decode-sound : (f : List ℕ) → Bytes f → Sound (decode f .call)
-decode-sound f h = decode-ends Kept f nobody-sound (masked-sound f) (addressed-sound f h) (unaddressed-sound f h)
+unfolding Sound
+decode-sound f h =
+    decode-ends Sound f tt (λ family sixteen at l. (l, mask-lt f (at + 1) (getD f at 0))) (λ to code. tt)
+    (λ to task at option. bytes-part at (length f - 2 - at) f h 0)
 
 -- ---- the same of any event
 
 module _ (number : ℕ) (f : List ℕ) where
-  heard-ends : (P : Request → Type 0) → P (bare Off) → P (bare On) → P (decode f) → P (bare EndOfFrame) → P (bare Ignored) → P (heard number f)
+  pub heard-ends : (P : Request → Type 0) → P (bare Off) → P (bare On) → P (decode f) → P (bare EndOfFrame) → P (bare Ignored) → P (heard number f)
   unfolding heard
   heard-ends P off on frame end ignored =
       if-both P (eqb number 1) off
@@ -123,7 +131,7 @@ module _ (number : ℕ) (f : List ℕ) where
 
   pub heard-sound : Bytes f → Sound (heard number f .call)
   unfolding Sound
-  heard-sound h = heard-ends Kept tt tt (decode-sound f h) tt tt
+  heard-sound h = heard-ends (λ r. Sound (r .call)) tt tt (decode-sound f h) tt tt
 
 -- ---- bytes to be written
 

@@ -5,3 +5,4 @@ pub mod LabelCases
 pub mod LabelSound
 pub mod LabelFramed
 pub mod ChipSound
+pub mod ChipFramed
