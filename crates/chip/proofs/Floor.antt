@@ -1,10 +1,11 @@
--- What the hospital's floor asked of a chip, for any order and draw: UID and option stay, counters fall, locks hold, bits only go down, SELECT clears reload.
+-- What the hospital's floor asked of a chip, for any order and draw: UID and option stay, counters fall, locks hold, bits only go down; and from frames and
+-- events: a counter is set, SELECT clears reload, one that is off keeps still.
 -- A block of the next body is the block before, or what a write to it left; each law is said of these two.
 -- Assumes nothing.
 use mathlib.Core.Path.{_≡_, refl, sym, ap, ap₂, _∙_, subst}
 use mathlib.Core.Logic.{_⊎_, inl, inr, ⊎-elim}
 use mathlib.Core.Bool.{true, false, not, _||_, false≢true}
-use mathlib.Core.List.{List}
+use mathlib.Core.List.{List, [], _∷_}
 use Prim.Native.Nat.{ℕ, _+_, _*_, _/_, _%_, _^_, _≤_, _<_, min}
 use native.Mathlib.Nat.{mod-lt, le-of-lt}
 use native.Mathlib.Omega.{arith}
@@ -17,7 +18,8 @@ use lib.Seq.{sets}
 use borrow.Author.Tests.{eqb-true, eqb-false, eq-eqb, ne-eqb, lt-ltb, ltb-true, not-true}
 use Rattle.frame.specs.Choose.{bit}
 use Rattle.frame.specs.Number.{num, bytesOf, part, Bytes}
-use Rattle.frame.proofs.Bools.{and-both, or-off, if-either, below-or-not, same-or-not}
+use Rattle.frame.specs.CheckSum.{framed}
+use Rattle.frame.proofs.Bools.{and-both, or-off, if-either, if-both, if-same, below-or-not, same-or-not}
 use Rattle.frame.proofs.Numbers.{num-bytes, num-bytes-lt, word-lt}
 use Rattle.frame.proofs.Stores.{part-off, part-on}
 use Rattle.request.specs.declared.chip.Order.{Order}
@@ -25,10 +27,12 @@ use Rattle.request.specs.declared.chip.Order.the-variants as o
 use Rattle.chip.specs.declared.step.Chip.{Chip}
 use Rattle.chip.specs.declared.step.Answer.the-variants.{Silent}
 use Rattle.chip.specs.declared.step.Stepped.{Stepped}
-use Rattle.request.specs.Chip.{heard}
+use Rattle.request.specs.Chip.{listed, pair, long, decode, heard}
+use Rattle.request.proofs.ChipSound.{field, decode-framed}
+use Rattle.request.proofs.ChipFramed.{pair-back, long-back}
 use Rattle.chip.specs.Write.{locked, written, countDown, lockDown}
-use Rattle.chip.specs.Step.{act, select, leave}
-use Rattle.chip.specs.Body.{loadOf, storeOf, placeOf, blockOf, worked, stepped, nextChip, saidChip}
+use Rattle.chip.specs.Step.{silent, fieldOff, initiate, pcall, marker, leave, select, read, uid, write, act}
+use Rattle.chip.specs.Body.{loadOf, storeOf, placeOf, blockOf, named, worked, stepped, nextChip, saidChip}
 use Rattle.chip.proofs.BodyShapes.{place-fits}
 use Rattle.chip.proofs.StepWays.{Next}
 use Rattle.chip.proofs.BodyStored.{place-low, place-high, store-length, store-off, store-part, store-reload, store-load, work-off, next-by}
@@ -143,10 +147,6 @@ count-le : (old v : ℕ) → countDown old v ≤ old
 unfolding countDown
 count-le old v = if-either (λ (x : ℕ). x ≤ old) (ltb v old) v old (λ e. le-of-lt (ltb-true v old e)) (λ e. omega arith)
 
-count-one : (old v : ℕ) → (countDown old v ≡ v) ⊎ (countDown old v ≡ old)
-unfolding countDown
-count-one old v = if-either (λ (x : ℕ). (x ≡ v) ⊎ (x ≡ old)) (ltb v old) v old (λ e. inl refl) (λ e. inr refl)
-
 pub counter-falls : (order : Order) (d : ℕ) (b : List ℕ) (n : ℕ) → (n ≡ 5) ⊎ (n ≡ 6) → length b ≡ 80
     → blockOf n (nextChip order d b) ≤ blockOf n b
 counter-falls order d b n h l =
@@ -154,33 +154,28 @@ counter-falls order d b n h l =
     (λ v q k. let w = written n (blockOf n b) v (getD b 78 0) in
     omega (arith, num-bytes 4 w, written-count n (blockOf n b) v (getD b 78 0) h, count-le (blockOf n b) v))
 
--- the block that a write carries
-abbrev sent : Order → ℕ
-sent o.Ignored = 0
-sent o.Off = 0
-sent o.On = 0
-sent o.Initiate = 0
-sent o.Pcall = 0
-sent (o.Marker n) = 0
-sent (o.Select id) = 0
-sent o.Completion = 0
-sent o.Reset = 0
-sent (o.Read n) = 0
-sent o.Uid = 0
-sent (o.Write n v) = v
+-- a frame that writes to a counter
+count-heard : (n : ℕ) (w : List ℕ) → (n ≡ 5) ⊎ (n ≡ 6) → length w ≡ 4 → heard 5 (framed (0x09 ∷ n ∷ w)) ≡ o.Write n (num w)
+unfolding heard long listed
+count-heard n w (inl e) h = long-back 0x09 n w h ∙ rw e
+count-heard n w (inr e) h = long-back 0x09 n w h ∙ rw e
 
--- set, and not lowered by what is written: it becomes w, or stays
-pub counter-set : (w d : ℕ) (b : List ℕ) (n : ℕ) → (n ≡ 5) ⊎ (n ≡ 6) → length b ≡ 80 → Bytes b
-    → (blockOf n (nextChip (o.Write n w) d b) ≡ w) ⊎ (blockOf n (nextChip (o.Write n w) d b) ≡ blockOf n b)
-counter-set w d b n h l bs =
-    block-next (λ (x : ℕ). (x ≡ w) ⊎ (x ≡ blockOf n b)) (o.Write n w) d b l n (count-below n h) (inr refl)
-    (λ v q k.
+-- what a write that is heeded leaves
+put-next : (n v d : ℕ) (b : List ℕ) → length b ≡ 80 → getD b 76 0 ≡ 3 → locked (num (part 64 4 b)) n ≡ false
+    → blockOf n (nextChip (o.Write n v) d b) ≡ num (bytesOf 4 (written n (blockOf n b) v (getD b 78 0)))
+unfolding nextChip stepped act write named worked loadOf
+put-next n v d b l q k = rw (q, k) (block-on n (written n (blockOf n b) v (getD b 78 0)) (storeOf b _) (rw (store-length b _) (omega arith)))
+
+-- set, and not lowered by what is written: it becomes w where that is below it, else it stays
+pub counter-set : (n : ℕ) (w : List ℕ) (d : ℕ) (b : List ℕ) → (n ≡ 5) ⊎ (n ≡ 6) → length w ≡ 4 → length b ≡ 80 → Bytes b → getD b 76 0 ≡ 3
+    → locked (num (part 64 4 b)) n ≡ false → blockOf n (nextChip (heard 5 (framed (0x09 ∷ n ∷ w))) d b) ≡ countDown (blockOf n b) (num w)
+counter-set n w d b h m l bs q k =
     let old = blockOf n b in
-    let e : w ≡ v = ap sent q in
-    let z : countDown old v < 2 ^ 32 = omega (arith, count-le old v, word-lt (placeOf n) b bs) in
-    let y : num (bytesOf 4 (written n old v (getD b 78 0))) ≡ countDown old v
-    = ap (λ (x : ℕ). num (bytesOf 4 x)) (written-count n old v (getD b 78 0) h) ∙ num-bytes-lt 4 (countDown old v) z in
-    ⊎-elim (λ (p : countDown old v ≡ v). inl (y ∙ p ∙ sym e)) (λ (p : countDown old v ≡ old). inr (y ∙ p)) (count-one old v))
+    let z : countDown old (num w) < 2 ^ 32 = omega (arith, count-le old (num w), word-lt (placeOf n) b bs) in
+    ap (λ (order : Order). blockOf n (nextChip order d b)) (count-heard n w h m)
+    ∙ put-next n (num w) d b l q k
+    ∙ ap (λ (x : ℕ). num (bytesOf 4 x)) (written-count n old (num w) (getD b 78 0) h)
+    ∙ num-bytes-lt 4 (countDown old (num w)) z
 
 -- ---- locks
 
@@ -264,16 +259,73 @@ select-clears id b h =
     (λ e. if-either Clear (eqb s 2 || (eqb s 3 || eqb s 4)) _ _ (λ f. refl)
     (λ f. no-reload b h (eqb-false s 3 (or-off (eqb s 3) (eqb s 4) (or-off (eqb s 2) (eqb s 3 || eqb s 4) f .1) .0))))
 
-pub reload-cleared : (id d : ℕ) (b : List ℕ) → length b ≡ 80 → ChipFine b → getD (nextChip (o.Select id) d b) 78 0 ≡ 0
+select-heard : (id : ℕ) → heard 5 (framed (0x0E ∷ id ∷ [])) ≡ o.Select id
+unfolding heard pair
+select-heard id = pair-back 0x0E id
+
+select-next : (id d : ℕ) (b : List ℕ) → length b ≡ 80 → ChipFine b → getD (nextChip (o.Select id) d b) 78 0 ≡ 0
 unfolding nextChip stepped act
-reload-cleared id d b l h =
+select-next id d b l h =
     let x = stepped (o.Select id) d b in
     work-off (x .work) (storeOf b (x .next)) 78 (omega arith) ∙ store-reload b (x .next) (omega arith) ∙ select-clears id b h
 
--- ---- events for labels
+pub reload-cleared : (id d : ℕ) (b : List ℕ) → length b ≡ 80 → ChipFine b → getD (nextChip (heard 5 (framed (0x0E ∷ id ∷ []))) d b) 78 0 ≡ 0
+reload-cleared id d b l h = ap (λ (order : Order). getD (nextChip order d b) 78 0) (select-heard id) ∙ select-next id d b l h
 
--- document 01, "Events": chips ignore 3 and 4, and what is ignored changes nothing and is not answered; a statement, which nothing cites
-pub ignores-3-4 : (f : List ℕ) (d : ℕ) (b : List ℕ)
-    → (heard 3 f ≡ o.Ignored) × (heard 4 f ≡ o.Ignored) × (nextChip o.Ignored d b ≡ b) × (saidChip o.Ignored d b ≡ Silent)
-unfolding heard nextChip saidChip stepped act worked
-ignores-3-4 f d b = (refl, refl, store-load b, refl)
+-- ---- events that leave a chip as it is
+
+-- nothing said, and the body unchanged
+abbrev pub Ignores : Order → ℕ → List ℕ → Type 0
+Ignores order d b = (saidChip order d b ≡ Silent) × (nextChip order d b ≡ b)
+
+by-step : (order : Order) (d : ℕ) (b : List ℕ) → stepped order d b ≡ silent (loadOf b) → Ignores order d b
+unfolding saidChip nextChip worked
+by-step order d b e =
+    (ap (λ (x : Stepped). x .answer) e, ap (λ (x : Stepped). worked (x .work) (storeOf b (x .next))) e ∙ store-load b)
+
+pub unasked : (d : ℕ) (b : List ℕ) → Ignores o.Ignored d b
+unfolding stepped act
+unasked d b = by-step o.Ignored d b refl
+
+-- document 01, "Events": chips ignore 3 and 4; a statement, which nothing cites
+pub ignores-3-4 : (number : ℕ) (f : List ℕ) (d : ℕ) (b : List ℕ) → (number ≡ 3) ⊎ (number ≡ 4) → Ignores (heard number f) d b
+unfolding heard
+ignores-3-4 number f d b (inl e) = rw e (unasked d b)
+ignores-3-4 number f d b (inr e) = rw e (unasked d b)
+
+-- state 0: no frame is heard
+off-acts : (order : Order) (d old s : ℕ) (c : Chip) → c .state ≡ 0 → field order ≡ false → act order d old s c ≡ silent c
+unfolding act initiate pcall marker select leave read uid write
+off-acts o.Ignored d old s c q h = refl
+off-acts o.Off d old s c q h = absurd (false≢true (sym h))
+off-acts o.On d old s c q h = absurd (false≢true (sym h))
+off-acts o.Initiate d old s c q h = rw q
+off-acts o.Pcall d old s c q h = rw q
+off-acts (o.Marker n) d old s c q h = rw q
+off-acts (o.Select id) d old s c q h = rw q (if-same (not (eqb (c .id) id)) _)
+off-acts o.Completion d old s c q h = rw q
+off-acts o.Reset d old s c q h = rw q
+off-acts (o.Read n) d old s c q h = rw q
+off-acts o.Uid d old s c q h = rw q
+off-acts (o.Write n v) d old s c q h = rw q
+
+-- document 01, "Events": tags in state 0 ignore everything but field on; a statement, which nothing cites
+module _ (d : ℕ) (b : List ℕ) (ok : ChipFine b) (q : getD b 76 0 ≡ 0) where
+  -- field off finds it as it leaves it
+  off-again : Ignores o.Off d b
+  unfolding stepped act fieldOff loadOf
+  off-again =
+      let id : getD b 77 0 ≡ 0 = ok .off q in
+      let reload : getD b 78 0 ≡ 0 = no-reload b ok (λ e. omega arith) in
+      by-step o.Off d b (rw (q, id, reload))
+
+  off-frame : (f : List ℕ) → Ignores (decode f) d b
+  unfolding stepped loadOf
+  off-frame f = by-step (decode f) d b (off-acts (decode f) d (named (decode f) b) (num (part 64 4 b)) (loadOf b) q (decode-framed f))
+
+  pub off-ignores : (number : ℕ) (f : List ℕ) → (number ≡ 2 → ⊥) → Ignores (heard number f) d b
+  unfolding heard
+  off-ignores number f n =
+      let P : Order → Type 0 = λ x. Ignores x d b in
+      if-both P (eqb number 1) off-again
+      (if-either P (eqb number 2) _ _ (λ e. absurd (n (eqb-true number 2 e))) (λ e. if-both P (eqb number 5) (off-frame f) (unasked d b)))
