@@ -15,7 +15,7 @@ use Rattle.frame.proofs.Bools.{and-both, if-both}
 use Rattle.label.specs.declared.step.Answer.{Answer}
 use Rattle.label.specs.declared.step.Answer.the-variants as a
 use Rattle.label.specs.Body.{Sized, labelRules, nextLabel}
-use Rattle.label.specs.Facts.{AnswerFits}
+use Rattle.label.specs.Facts.{LabelFine, AnswerFits}
 use Rattle.request.proofs.LabelSound as label-decoded
 use Rattle.label.proofs.LocksLaws.{room-same}
 use Rattle.label.proofs.FactsFine as label-fine
@@ -99,6 +99,13 @@ label-kept b f = f .rules
 pub label-sized : (b : List ℕ) → TagFine Label b → Sized b
 label-sized b f = label-fine.sized-of b (label-kept b f)
 
+pub label-facts : (b : List ℕ) → Bytes b → TagFine Label b → LabelFine b
+label-facts b bytes f = label-fine.rules-fine b bytes (label-kept b f)
+
+pub chip-facts : (b : List ℕ) → TagFine Chip b → chip-keeps.ChipFine b
+unfolding bodyRules
+chip-facts b f = chip-keeps.rules-fine b (f .rules)
+
 pub chip-80 : (b : List ℕ) → TagFine Chip b → length b ≡ 80
 chip-80 b f = fits-chip (length b) (f .fits)
 
@@ -144,7 +151,7 @@ pub record Stepping (kind : Kind) (event : Event) (d : ℕ) (b : List ℕ) : Typ
 pub body-bytes : (kind : Kind) (event : Event) (d : ℕ) (b : List ℕ) → Stepping kind event d b → Bytes (nextBody kind event d b)
 unfolding nextBody
 body-bytes Label event d b s =
-    let g = label-fine.rules-fine b (s .bytes) (label-kept b (s .fine)) in
+    let g = label-facts b (s .bytes) (s .fine) in
     label-keeps.next-bytes (event .signal .label) (event .bytes) b (s .bytes) (s .sound .sent) g (s .sound .call)
 body-bytes Chip event d b s = chip-keeps.next-bytes (event .signal .chip) d b (s .bytes) (s .draw)
 body-bytes Other event d b s = s .bytes
@@ -152,7 +159,7 @@ body-bytes Other event d b s = s .bytes
 keeps : (kind : Kind) (event : Event) (d : ℕ) (b : List ℕ) → Stepping kind event d b → bodyRules kind (nextBody kind event d b) .number ≡ 0
 unfolding nextBody bodyRules
 keeps Label event d b s =
-    let g = label-fine.rules-fine b (s .bytes) (label-kept b (s .fine)) in
+    let g = label-facts b (s .bytes) (s .fine) in
     let m = label-keeps.next-keeps (event .signal .label) (event .bytes) b (s .bytes) g (s .sound .call) in
     ap (λ (v : Verdict). v .number) (label-fine.fine-rules (nextLabel (event .signal .label) (event .bytes) b) (body-bytes Label event d b s) m)
 keeps Chip event d b s = chip-keeps.next-keeps (event .signal .chip) d b (chip-80 b (s .fine)) (s .bytes) (s .fine .rules)

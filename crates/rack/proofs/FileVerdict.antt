@@ -150,3 +150,11 @@ fine-rack r ok =
     let en = ap number (first-all (entryVerdict r) (countOf r) (λ i h. ok .entry i h .isFine)) in
     let bo = ap number (first-all (bodyVerdict r) (countOf r) (λ i h. ok .body i h .isFine)) in
     sym (by-end r fine (ap number (ok .head .isFine)) en bo (end-good r (length r) (sym (ok .whole)) (omega arith)))
+
+-- document 01, "Rack file": at most 65,536 bytes
+pub most-bytes : (r : List ℕ) → verdictOf r .number ≡ 0 → length r ≤ 65536
+most-bytes r e = go (rack-fine r e) (countOf r) refl
+  where
+    go : RackFine r → (n : ℕ) → n ≡ countOf r → length r ≤ 65536
+    go ok zero q = omega (arith, ok .whole, ap (startOf r) q, start-none r)
+    go ok (suc m) q = omega (arith, ok .whole, ap (startOf r) q, start-suc r m, ok .entry m (omega arith) .small)

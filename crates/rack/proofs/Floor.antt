@@ -1,6 +1,6 @@
 -- What the floor asked for, of a whole rack, over any event: each law of one tag holds of each body, since the rack that a call leaves has,
 -- at every entry, either the old body (a refusal) or the step of the old one. Assumes nothing.
-use mathlib.Core.Path.{_≡_, sym, subst}
+use mathlib.Core.Path.{_≡_, refl, sym, subst}
 use mathlib.Core.Bool.{Bool, true, false}
 use mathlib.Core.List.{List}
 use mathlib.Core.Logic.{_⊎_}
@@ -98,15 +98,20 @@ module _ (r : List ℕ) (ok : RackFine r) (number : ℕ) (f ds out : List ℕ) w
           (λ j. part (labels.blockAt body n) (labels.sizeOf body) body)
           (label.locked-block-stays (event .signal .label) (event .bytes) body n m l)
 
-      pub locked-afi-stays : bit 0 (getD body 10 0) ≡ 1 → getD bodyLeft 9 0 ≡ getD body 9 0
-      locked-afi-stays l =
-          by-label (λ x. getD x 9 0 ≡ getD body 9 0) (λ j. getD body 9 0)
-          (label.locked-afi-stays (event .signal .label) (event .bytes) body long l .0)
+      -- and stays locked
+      pub lock-stays : (n : ℕ) → n < labels.blocksOf body → lockOn n body ≡ 1 → lockOn n bodyLeft ≡ 1
+      lock-stays n m l =
+          by-label (λ x. lockOn n x ≡ 1) l (label.lock-stays (event .signal .label) (event .bytes) body n m l (label-sized body (tag k)))
 
-      pub locked-dsfid-stays : bit 1 (getD body 10 0) ≡ 1 → getD bodyLeft 8 0 ≡ getD body 8 0
+      pub locked-afi-stays : bit 0 (getD body 10 0) ≡ 1 → (getD bodyLeft 9 0 ≡ getD body 9 0) × (bit 0 (getD bodyLeft 10 0) ≡ 1)
+      locked-afi-stays l =
+          by-label (λ x. (getD x 9 0 ≡ getD body 9 0) × (bit 0 (getD x 10 0) ≡ 1)) (refl, l)
+          (label.locked-afi-stays (event .signal .label) (event .bytes) body long l)
+
+      pub locked-dsfid-stays : bit 1 (getD body 10 0) ≡ 1 → (getD bodyLeft 8 0 ≡ getD body 8 0) × (bit 1 (getD bodyLeft 10 0) ≡ 1)
       locked-dsfid-stays l =
-          by-label (λ x. getD x 8 0 ≡ getD body 8 0) (λ j. getD body 8 0)
-          (label.locked-dsfid-stays (event .signal .label) (event .bytes) body long l .0)
+          by-label (λ x. (getD x 8 0 ≡ getD body 8 0) × (bit 1 (getD x 10 0) ≡ 1)) (refl, l)
+          (label.locked-dsfid-stays (event .signal .label) (event .bytes) body long l)
 
     -- ---- chips
     module _ (k : kindAt r i ≡ Chip) where
@@ -131,6 +136,12 @@ module _ (r : List ℕ) (ok : RackFine r) (number : ℕ) (f ds out : List ℕ) w
       locked-stays n l =
           by-chip (λ x. chips.blockOf n x ≡ chips.blockOf n body) (λ j. chips.blockOf n body)
           (chip.locked-stays (event .signal .chip) (getD ds i 0) body n eighty l)
+
+      -- and stays locked
+      pub chip-lock-stays : Bytes r → (n : ℕ) → locked (num (part 64 4 body)) n ≡ true → locked (num (part 64 4 bodyLeft)) n ≡ true
+      chip-lock-stays br n l =
+          by-chip (λ x. locked (num (part 64 4 x)) n ≡ true) l
+          (chip.lock-stays (event .signal .chip) (getD ds i 0) body n eighty (bytes-part (startOf r i) (lengthAt r i) r br) l)
 
       -- no bit of a resettable block rises without reload
       pub only-down : Bytes r → (n : ℕ) → n < 5 → (getD body 78 0 ≡ 1 → ⊥)

@@ -7,4 +7,5 @@ pub mod EventTags
 pub mod Pass
 pub mod EventNext
 pub mod EventOutcomes
+pub mod EventBare
 pub mod Floor
