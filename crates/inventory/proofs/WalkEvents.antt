@@ -9,7 +9,6 @@ use borrow.Author.Tests.{eq-eqb, le-ltb}
 use lib.Dec.{leb}
 use lib.ListN.{length, getD}
 use Rattle.frame.specs.Choose.{gather}
-use Rattle.frame.specs.Number.{Bytes}
 use Rattle.frame.proofs.Numbers.{bytes-part}
 use Rattle.request.specs.Label as labels
 use Rattle.request.specs.Label.{bare}
@@ -20,6 +19,7 @@ use Rattle.request.specs.Chip as chips
 use Rattle.rack.specs.File.{Kind, Label, Chip, Other}
 use Rattle.rack.specs.File.{countOf, kindAt, lengthAt, startOf, bodyAt, rebuilt, lengthFits, bodyRules}
 use Rattle.rack.specs.Facts.{RackFine}
+pub use Rattle.rack.specs.Facts.{Fine}
 use Rattle.rack.specs.Event.{Event, aired, next, answer, nextRack, answers, played, least, refusalOf, eventOf}
 use Rattle.inventory.specs.Walk.{PerEvent, request}
 use Rattle.inventory.proofs.WalkSent.{event}
@@ -30,11 +30,6 @@ use Rattle.rack.proofs.FileRebuilt as rebuilt
 use Rattle.rack.proofs.FileVerdict.{fine-rack}
 use Rattle.rack.proofs.EventTags.{fits-label, fits-chip, fits-none}
 use Rattle.inventory.proofs.WalkBodies.{TagOk, eventWith, duringBody, called, spoken, body-first, answer-first}
-
--- a rack of bytes that keeps its rules
-pub record Fine (r : List ℕ) : Type 0 where
-  pub rack : RackFine r
-  pub bytes : Bytes r
 
 -- ---- its tags
 

@@ -30,6 +30,14 @@ module _ (r : List ℕ) (event : Event) (ds : List ℕ) (ok : RackFine r) where
   unfolding nextRack
   next-length = rebuilt-length r (ok .whole) (next r event ds) sized
 
+  pub next-count : countOf (nextRack r event ds) ≡ countOf r
+  unfolding nextRack
+  next-count = rebuilt-count r (ok .whole) (next r event ds) sized
+
+  pub next-kind : (i : ℕ) → i < countOf r → kindAt (nextRack r event ds) i ≡ kindAt r i
+  unfolding nextRack
+  next-kind = rebuilt-kind r (ok .whole) (next r event ds) sized
+
   pub next-lengthAt : (i : ℕ) → i < countOf r → lengthAt (nextRack r event ds) i ≡ lengthAt r i
   unfolding nextRack
   next-lengthAt = rebuilt-lengthAt r (ok .whole) (next r event ds) sized
@@ -53,7 +61,7 @@ module _ (r : List ℕ) (event : Event) (ds : List ℕ) (ok : RackFine r) where
   body-next i h = rebuilt-body r (ok .whole) (next r event ds) sized i h
 
   module _ (bytes : Bytes r) (drawn : Bytes ds) (s : SignalSound event) where
-    stepping : (i : ℕ) → i < countOf r → Stepping (kindAt r i) event (getD ds i 0) (bodyAt r i)
+    pub stepping : (i : ℕ) → i < countOf r → Stepping (kindAt r i) event (getD ds i 0) (bodyAt r i)
     stepping i h = record { bytes = bytes-part (startOf r i) (lengthAt r i) r bytes; draw = drawn i; sound = s; fine = tag-fine r ok i h }
 
     -- bytes stay bytes

@@ -9,3 +9,4 @@ pub mod EventNext
 pub mod EventOutcomes
 pub mod EventBare
 pub mod Floor
+pub mod RunKeeps

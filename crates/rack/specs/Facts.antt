@@ -5,7 +5,7 @@ use mathlib.Core.List.{List}
 use Prim.Native.Nat.{ℕ, _+_, _≤_, _<_}
 use lib.ListN.{length}
 use Rattle.frame.specs.Judge.{fine}
-use Rattle.frame.specs.Number.{part}
+use Rattle.frame.specs.Number.{part, Bytes}
 use Rattle.label.specs.Body.{Sized}
 use Rattle.label.specs.Facts.{AnswerFits}
 use Rattle.rack.specs.File.{Kind}
@@ -38,6 +38,11 @@ pub record RackFine (r : List ℕ) : Type 0 where
   pub entry : EntriesFine r
   pub body : (i : ℕ) → i < countOf r → BodyFine r i
   pub whole : startOf r (countOf r) ≡ length r
+
+-- and made of bytes
+pub record Fine (r : List ℕ) : Type 0 where
+  pub rack : RackFine r
+  pub bytes : Bytes r
 
 -- a body of its kind that keeps its rules
 pub record TagFine (kind : Kind) (b : List ℕ) : Type 0 where

@@ -2,4 +2,5 @@
 pub mod File
 pub mod Facts
 pub mod Event
+pub mod Run
 pub mod Pass
