@@ -8,5 +8,6 @@ pub mod Pass
 pub mod EventNext
 pub mod EventOutcomes
 pub mod EventBare
+pub mod EventSlips
 pub mod Floor
 pub mod RunKeeps
