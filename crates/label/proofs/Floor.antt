@@ -24,8 +24,7 @@ use Rattle.request.specs.Table.{rowOf}
 use Rattle.request.specs.declared.label.Target.{Target}
 use Rattle.request.specs.declared.label.Family.the-variants.{Any}
 use Rattle.request.specs.declared.table.Task.{Task}
-use Rattle.request.specs.declared.table.Task.the-variants as x
-use Rattle.request.specs.declared.table.Task.the-variants.{Write}
+use Rattle.request.specs.declared.table.Task.the-variants as t
 use Rattle.request.specs.declared.label.Call.{Call}
 use Rattle.request.specs.declared.label.Call.the-variants.{Ignored, Off, On, EndOfFrame, Nobody, Inventory, Fault, Do}
 use Rattle.request.specs.declared.label.Request.{Request}
@@ -49,7 +48,7 @@ use Rattle.label.proofs.BodyStored.{stored-between, stored-lock, stored
 use Rattle.label.proofs.BodyStored.{stored-locks, stored-state, store-load}
 use Rattle.label.proofs.BodyWorked.{worked-below, worked-part}
 use Rattle.label.proofs.StepFits.{step-fits}
-use Rattle.label.proofs.Slots.{store-ended, next-silent, said-turn, said-silent, end-more, end-none, clear-own, said-first}
+use Rattle.label.proofs.Slots.{store-ended, next-silent, said-turn, said-silent, end-more, end-none, no-slot, clear-own, said-first}
 use Rattle.label.proofs.StepWays.{Way, stays, offs, wakes, moves, starts, says, hushes, selects, readies, drops, writes, locks}
 use Rattle.label.proofs.StepWays.{afis, dsfids, afiLocks, dsfidLocks, way}
 
@@ -245,11 +244,7 @@ module _ (f b : List ℕ) (q : getD b 14 0 ≡ 2) (h : set? (flag 2 f) ≡ true)
 -- and it is in no slot
 quiet-none : (n : ℕ) (b : List ℕ) → LabelFine b → getD b 14 0 ≡ 2 → stepped (bare EndOfFrame) n b ≡ silent (loadOf b)
 unfolding stepped act called loadOf
-quiet-none n b ok q =
-    end-none (loadOf b)
-    (⊎-elim (λ (e : getD b 15 0 ≡ 255). e)
-    (λ (e : getD b 15 0 ≡ 255 → ⊥). let x = ok .ready e (λ y. omega arith) in absurd (omega arith))
-    (same-or-not (getD b 15 0) 255))
+quiet-none n b ok q = end-none (loadOf b) (no-slot b ok (λ e. omega arith) (λ e. omega arith))
 
 pub quiet-end : (f : List ℕ) (n : ℕ) (b : List ℕ) → LabelFine b → getD b 14 0 ≡ 2 → saidLabel (heard 4 f) n b ≡ a.Silent
 unfolding heard
@@ -320,7 +315,6 @@ module _ (b : List ℕ) (bs : Bytes b) (ok : LabelFine b) where
 
 -- ---- errors
 
--- document 01, "Labels": an error answer changes nothing; a statement, which nothing cites
 abbrev errs : Answer → Bool
 errs a.Silent = false
 errs (a.Error code) = true
@@ -350,7 +344,7 @@ way-error code (dsfids v x y) e = absurd (false≢true (ap errs e))
 way-error code (afiLocks x) e = absurd (false≢true (ap errs e))
 way-error code (dsfidLocks x) e = absurd (false≢true (ap errs e))
 
--- whatever the error: the body stays, but for its slot sequence, which every frame ends
+-- document 01, "Labels": whatever the error, the body stays, but for its slot sequence, which every frame ends; a statement, which nothing cites
 pub error-stays : (r : Request) (bytes b : List ℕ) (code : ℕ) → saidLabel r (length bytes) b ≡ a.Error code → nextLabel r bytes b ≡ clear b
 unfolding nextLabel saidLabel stepped worked
 error-stays r bytes b code e =
@@ -358,7 +352,7 @@ error-stays r bytes b code e =
     (way-error code (way r (length bytes) (named (r .call) b) (loadOf b)) e)
     ∙ store-ended b
 
--- a frame that is at fault before any label is looked at: one that is selected stays so, whether it answers or not
+-- a frame that is at fault before any label is looked at: one that is selected stays so, whether it answers or not; a statement, which nothing cites
 pub fault-stays : (uid : List ℕ) (to : Target) (code : ℕ) (bytes b : List ℕ) → Bytes b → LabelFine b
     → nextLabel (record { uid = uid; call = Fault to code }) bytes b ≡ clear b
 unfolding nextLabel worked stepped act called faulted loadOf
@@ -435,22 +429,22 @@ module _ (bytes b : List ℕ) (bs : Bytes b) (ok : LabelFine b) (q : getD b 14 0
 -- ---- bytes sent matter to a write alone
 
 abbrev Unwriting : Call → Type 0
-Unwriting call = (to : Target) (p : ℕ) (option : Bool) → call ≡ Do to Write p option → ⊥
+Unwriting call = (to : Target) (p : ℕ) (option : Bool) → call ≡ Do to t.Write p option → ⊥
 
 task-count : (task : Task) (to : Target) (uid : List ℕ) (p : ℕ) (option : Bool) (n m lock : ℕ) (l : Label) → Unwriting (Do to task p option)
     → asked to uid task p option n lock l ≡ asked to uid task p option m lock l
 unfolding asked perform
-task-count x.Quiet to uid p option n m lock l z = refl
-task-count x.Read to uid p option n m lock l z = refl
-task-count x.Write to uid p option n m lock l z = absurd (z to p option refl)
-task-count x.Lock to uid p option n m lock l z = refl
-task-count x.Select to uid p option n m lock l z = refl
-task-count x.Ready to uid p option n m lock l z = refl
-task-count x.WriteAfi to uid p option n m lock l z = refl
-task-count x.LockAfi to uid p option n m lock l z = refl
-task-count x.WriteDsfid to uid p option n m lock l z = refl
-task-count x.LockDsfid to uid p option n m lock l z = refl
-task-count x.Info to uid p option n m lock l z = refl
+task-count t.Quiet to uid p option n m lock l z = refl
+task-count t.Read to uid p option n m lock l z = refl
+task-count t.Write to uid p option n m lock l z = absurd (z to p option refl)
+task-count t.Lock to uid p option n m lock l z = refl
+task-count t.Select to uid p option n m lock l z = refl
+task-count t.Ready to uid p option n m lock l z = refl
+task-count t.WriteAfi to uid p option n m lock l z = refl
+task-count t.LockAfi to uid p option n m lock l z = refl
+task-count t.WriteDsfid to uid p option n m lock l z = refl
+task-count t.LockDsfid to uid p option n m lock l z = refl
+task-count t.Info to uid p option n m lock l z = refl
 
 call-count : (call : Call) (uid : List ℕ) (n m lock : ℕ) (l : Label) → Unwriting call → called call uid n lock l ≡ called call uid m lock l
 unfolding called
@@ -470,8 +464,7 @@ unwritten w.Nothing count b h g bytes bytes₂ y = refl
 unwritten (w.Write n) count b h g bytes bytes₂ y = absurd (h (g .1))
 unwritten (w.Lock n) count b h g bytes bytes₂ y = refl
 
--- statements, which nothing cites
-module _ (r : Request) (b : List ℕ) (z : (to : Target) (p : ℕ) (option : Bool) → r .call ≡ Do to Write p option → ⊥) where
+module _ (r : Request) (b : List ℕ) (z : (to : Target) (p : ℕ) (option : Bool) → r .call ≡ Do to t.Write p option → ⊥) where
   uncounted : (n m : ℕ) → stepped r n b ≡ stepped r m b
   unfolding stepped act
   uncounted n m = call-count (r .call) (r .uid) n m (named (r .call) b) (loadOf b) z

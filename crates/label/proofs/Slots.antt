@@ -200,15 +200,16 @@ module _ (family : Family) (m e s : ℕ) (b : List ℕ) where
   pub during-length : length (during family m e s b) ≡ length b
   during-length = during-both (λ x. length x ≡ length b) (seek-length s m e b) (clear-length b)
 
+-- a slot needs state 1 or 3
+pub no-slot : (b : List ℕ) → LabelFine b → (getD b 14 0 ≡ 1 → ⊥) → (getD b 14 0 ≡ 3 → ⊥) → getD b 15 0 ≡ 255
+no-slot b ok p q =
+    ⊎-elim (λ (e : getD b 15 0 ≡ 255). e) (λ (e : getD b 15 0 ≡ 255 → ⊥). absurd (q (ok .ready e p))) (same-or-not (getD b 15 0) 255)
+
 -- a label in state 0 is clear
 pub clear-own : (b : List ℕ) → Bytes b → LabelFine b → getD b 14 0 ≡ 0 → clear b ≡ b
 unfolding clear
 clear-own b f ok z =
-    let h : getD b 15 0 ≡ 255
-    = ⊎-elim
-    (λ (e : getD b 15 0 ≡ 255). e)
-    (λ (e : getD b 15 0 ≡ 255 → ⊥). absurd (let x = ok .ready e (λ y. omega arith) in omega arith))
-    (same-or-not (getD b 15 0) 255) in
+    let h : getD b 15 0 ≡ 255 = no-slot b ok (λ e. omega arith) (λ e. omega arith) in
     let i : getD b 16 0 ≡ 0 = ok .idle h in
     let q : num (part 17 8 b) < 2 ^ 0 = rw i at (ok .mask) in
     let o : num (part 17 8 b) ≡ 0 = omega arith in
