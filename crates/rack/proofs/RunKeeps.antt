@@ -30,7 +30,7 @@ use Rattle.rack.proofs.Floor.{left-by, contents-left}
 
 -- ---- the induction
 
--- an event leaves such a rack
+-- from a rack of bytes that keeps its rules an event leaves one
 after-fine : (r : List ℕ) → Fine r → (e : Happening) → Fine (after r e)
 after-fine r ok e =
     let s = signal-sound (e .number) (e .frame) (e .frameBytes) in
