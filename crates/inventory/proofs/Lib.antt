@@ -21,4 +21,3 @@ pub mod NumbersListed
 pub mod NumbersGathered
 pub mod NumbersBranches
 pub mod WalkCalls
-pub mod Marked

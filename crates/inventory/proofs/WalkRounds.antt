@@ -23,13 +23,13 @@ use Rattle.inventory.proofs.WalkEvents.{Fine, tag, rebuilt-fine, Lent, 
 
 module _ (r : List ℕ) (fine : Fine r) (family : Family) (m e : ℕ) (short : m ≤ 60) (low : e < 2 ^ m) where
   -- the bodies in slot s
-  abbrev bodies : ℕ → ℕ → List ℕ
+  abbrev pub bodies : ℕ → ℕ → List ℕ
   bodies s i = duringBody family m e s (kindAt r i) (bodyAt r i)
 
-  sized : (s i : ℕ) → i < countOf r → length (bodies s i) ≡ lengthAt r i
+  pub sized : (s i : ℕ) → i < countOf r → length (bodies s i) ≡ lengthAt r i
   sized s i h = during-size family m e s (kindAt r i) (bodyAt r i) ∙ body-long r (fine .rack .whole) i h
 
-  bodies-fine : (s : ℕ) → s ≤ 15 → RackFine (rebuilt r (bodies s))
+  pub bodies-fine : (s : ℕ) → s ≤ 15 → RackFine (rebuilt r (bodies s))
   bodies-fine s h = rebuilt-fine r (bodies s) (fine .rack) (λ i b. (sized s i b, during-rules (tag r fine i b) family m e s short low h))
 
   -- the body that slot s finds
@@ -76,21 +76,21 @@ module _ (r : List ℕ) (fine : Fine r) (family : Family) (m e : ℕ) (short : m
   -- ---- each slot, as it is sent: the Inventory, and then ends of frame
 
   module _ {draws out : PerEvent} (lent : Lent draws out r) where
-    abbrev slot : ℕ → Outcome
+    abbrev pub slot : ℕ → Outcome
     slot s = slotOutcome draws out r family m e s
 
     slot-none : slot 0 ≡ played r (event (Inventory family true m e)) (draws m e 0) (out m e 0)
     unfolding slotOutcome
     slot-none = opens r fine family m e lent short low
 
-    slot-next : (s : ℕ) → s ≤ 15 → slot s .rack ≡ rebuilt r (bodies s)
+    pub slot-next : (s : ℕ) → s ≤ 15 → slot s .rack ≡ rebuilt r (bodies s)
         → slot (suc s) ≡ played (rebuilt r (bodies s)) (event EndOfFrame) (draws m e (suc s)) (out m e (suc s))
     unfolding slotOutcome
     slot-next s h i =
         ap (λ (y : List ℕ). eventOf y 4 [] (draws m e (suc s)) (out m e (suc s))) i
         ∙ ends (lent-same lent (rebuilt-count r (fine .rack .whole) (bodies s) (sized s))) (bodies-fine s h) m e (suc s)
 
-    in-slot : (s : ℕ) → s ≤ 15 → slot s .rack ≡ rebuilt r (bodies s)
+    pub in-slot : (s : ℕ) → s ≤ 15 → slot s .rack ≡ rebuilt r (bodies s)
     in-slot zero h = ap (λ (o : Outcome). o .rack) slot-none ∙ first-rack (draws m e 0)
     in-slot (suc s) h =
         let b : s ≤ 15 = omega arith in

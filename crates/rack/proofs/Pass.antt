@@ -67,7 +67,7 @@ module _ (r : List ℕ) (event : Event) (ds : List ℕ) (ok : RackFine r) where
 
 -- ---- the pass, one tag further
 
-length-zero : {A : Type 0} (l : List A) → length l ≡ 0 → l ≡ []
+pub length-zero : {A : Type 0} (l : List A) → length l ≡ 0 → l ≡ []
 length-zero [] h = refl
 length-zero (x ∷ l) h = absurd (omega arith)
 

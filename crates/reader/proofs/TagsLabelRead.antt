@@ -264,7 +264,9 @@ module _ (to : Target) (option : Bool) (family : Family) (bits mask : ℕ) (uid 
   facts : (bits ≤ 60) × (mask < 2 ^ bits)
   facts = let i = valid-inventory to option family true bits mask n v in (i .short, i .low)
 
-  slot-said : (s : ℕ) → s < 15 → Later (during family bits mask s b)
+  pub slot-said : (s : ℕ) → s < 15
+      → readingOf (c.Inventory to option family true bits mask) uid n (answerFrame (slotSays (during family bits mask s b)) (during family bits mask s b))
+      ≡ labelMeaning (slotSays (during family bits mask s b)) (during family bits mask s b)
   unfolding endsInSlot
   slot-said s h =
       subst P (sym (said-step family bits mask b ok (facts .0) (facts .1) s 0 h))
