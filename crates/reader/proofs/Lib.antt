@@ -17,4 +17,3 @@ pub mod TagsMade
 pub mod TagsLabelGiven
 pub mod TagsChipGiven
 pub mod TagsCommand
-pub mod ToldWays

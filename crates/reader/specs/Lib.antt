@@ -4,5 +4,3 @@ pub mod Request
 pub mod Answer
 pub mod Tags
 pub mod Plan
-pub mod Fields
-pub mod Told

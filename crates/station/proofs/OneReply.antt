@@ -6,10 +6,10 @@ use mathlib.Core.List.{List}
 use Prim.Native.Nat.{ℕ}
 use Rattle.frame.specs.CheckSum.{crcOf}
 use Rattle.reader.specs.Answer.{readingOf}
-use Rattle.reader.specs.declared.fields.Fields.{Fields}
-use Rattle.reader.specs.declared.told.Told.{Told}
-use Rattle.reader.specs.Fields.{commandOf}
-use Rattle.reader.specs.Told.{toldOf}
+use Rattle.face.specs.declared.fields.Fields.{Fields}
+use Rattle.face.specs.declared.told.Told.{Told}
+use Rattle.face.specs.Fields.{commandOf}
+use Rattle.face.specs.Told.{toldOf}
 
 -- sackbutflare_read_answer
 pub one-told : (f : Fields) (uid : List ℕ) (n : ℕ) (frame : List ℕ) (r s : Told)

@@ -2,11 +2,11 @@
 use frame::uid::uid_number;
 use inventory::walk::Walked;
 use rack::event::Report;
-use reader::fields::Fields;
-use reader::fields::command_of;
-use reader::fields::family_of;
-use reader::told::Told;
-use reader::told::tell;
+use face::fields::Fields;
+use face::fields::command_of;
+use face::fields::family_of;
+use face::told::Told;
+use face::told::tell;
 use reader::writer::Written;
 ghost use mathlib.Core.Path.{_≡_};
 ghost use Rattle.frame.specs.CheckSum.{crcOf};
@@ -14,8 +14,8 @@ ghost use Rattle.rack.specs.Event.{Replied};
 ghost use Rattle.inventory.specs.Promise.{Reply};
 ghost use Rattle.reader.specs.Request.{Wrote};
 ghost use Rattle.reader.specs.Answer.{readingOf};
-ghost use Rattle.reader.specs.Fields.{familyOf, commandOf};
-ghost use Rattle.reader.specs.Told.{toldOf};
+ghost use Rattle.face.specs.Fields.{familyOf, commandOf};
+ghost use Rattle.face.specs.Told.{toldOf};
 
 // Plays an event on a rack.
 #[no_mangle]

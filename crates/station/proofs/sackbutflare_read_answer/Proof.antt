@@ -1,6 +1,6 @@
 -- What the answer reader promises of the command that the numbers name, as numbers.
 -- Assumes nothing.
-use Rattle.reader.proofs.ToldWays.{told-of}
+use Rattle.face.proofs.ToldWays.{told-of}
 use borrow.Author.Needs.{needs}
 use Rattle.station.proofs.sackbutflare_read_answer.Statement.{statement}
 use Rattle.station.proofs.sackbutflare_read_answer.Tie as tie

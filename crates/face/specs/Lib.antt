@@ -1,0 +1,3 @@
+-- What the numbers of the C face mean, as definitions.
+pub mod Fields
+pub mod Told
