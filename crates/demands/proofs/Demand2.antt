@@ -17,7 +17,7 @@ use Rattle.frame.proofs.Lists.{gather-none}
 use Rattle.frame.proofs.Numbers.{bytes-part}
 use Rattle.request.specs.Label as labels
 use Rattle.request.specs.Chip as chips
-use Rattle.label.proofs.FactsFine.{rules-fine}
+use Rattle.label_body.proofs.FactsFine.{rules-fine}
 use Rattle.chip.specs.declared.step.Answer as chip
 use Rattle.chip.specs.declared.step.Answer.the-variants as a
 use Rattle.chip.specs.Body.{saidChip}

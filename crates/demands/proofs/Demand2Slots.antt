@@ -22,10 +22,10 @@ use Rattle.label.specs.declared.step.Answer as label
 use Rattle.label.specs.declared.step.Answer.the-variants as a
 use Rattle.label.specs.declared.step.Stepped.{Stepped}
 use Rattle.label.specs.Step.{act, called, endOfFrame, turn}
-use Rattle.label.specs.Body.{loadOf, stepped, saidLabel}
-use Rattle.label.specs.Answer.{answerFrame}
-use Rattle.label.specs.Slots.{during}
-use Rattle.label.proofs.FactsFine.{rules-fine}
+use Rattle.label_body.specs.Body.{loadOf, stepped, saidLabel}
+use Rattle.label_body.specs.Answer.{answerFrame}
+use Rattle.label_body.specs.Slots.{during}
+use Rattle.label_body.proofs.FactsFine.{rules-fine}
 use Rattle.chip.specs.Body.{saidChip}
 use Rattle.reader.specs.declared.command.Command.{Command}
 use Rattle.reader.specs.declared.command.Command.the-variants.{Inventory}

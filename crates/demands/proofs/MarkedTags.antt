@@ -15,8 +15,8 @@ use Rattle.request.specs.Label.{heard}
 use Rattle.request.specs.Chip as chips
 use Rattle.request.specs.declared.label.Family.{Family}
 use Rattle.label.specs.Step.{withSlot, told, silent, act, called, endOfFrame, turn}
-use Rattle.label.specs.Body.{loadOf, stepped, saidLabel}
-use Rattle.label.specs.Answer.{answerFrame}
+use Rattle.label_body.specs.Body.{loadOf, stepped, saidLabel}
+use Rattle.label_body.specs.Answer.{answerFrame}
 use Rattle.label.specs.declared.step.Label.{Label}
 use Rattle.label.specs.declared.step.Stepped.{Stepped}
 use Rattle.label.specs.declared.step.Answer.the-variants.{Silent, Found}

@@ -12,9 +12,9 @@ use Rattle.frame.specs.Choose.{gather}
 use Rattle.frame.specs.Judge.{firstOf, byteVerdict}
 use Rattle.frame.specs.Number.{Bytes}
 use Rattle.frame.proofs.Bools.{and-both}
-use Rattle.label.specs.Locks.{lockRoom, locksVerdict}
-use Rattle.label.specs.Body.{loadOf, headRules, slotRules, over, maskVerdict, labelRules}
-use Rattle.label.specs.Slots.{takesPart}
+use Rattle.label_body.specs.Locks.{lockRoom, locksVerdict}
+use Rattle.label_body.specs.Body.{loadOf, headRules, slotRules, over, maskVerdict, labelRules}
+use Rattle.label_body.specs.Slots.{takesPart}
 use Rattle.label.specs.Step.{passes, ready, heeds}
 use Rattle.request.specs.declared.label.Family.{Family}
 use Rattle.request.specs.declared.label.Family.the-variants.{Any}

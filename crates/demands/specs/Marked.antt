@@ -8,7 +8,7 @@ use lib.Seq.{sets}
 use Rattle.frame.specs.Number.{num, bytesOf, part, Bytes}
 use Rattle.frame.specs.CheckSum.{crcOf, framed}
 use Rattle.label.specs.declared.step.Answer.the-variants.{Found}
-use Rattle.label.specs.Answer.{answerFrame}
+use Rattle.label_body.specs.Answer.{answerFrame}
 use Rattle.chip.specs.Body.{placeOf}
 use Rattle.request.specs.declared.label.Family.{Family}
 use Rattle.request.specs.declared.label.Family.the-variants.{Any}

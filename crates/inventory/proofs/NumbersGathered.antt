@@ -10,7 +10,7 @@ use lib.Seq.{sets, length-sets}
 use Rattle.frame.proofs.Lists.{gather-none, gather-more}
 use Rattle.frame.proofs.Puts.{sets-append}
 use Rattle.frame.proofs.Stores.{part-on}
-use Rattle.label.specs.Slots.{uidOf, takesPart}
+use Rattle.label_body.specs.Slots.{uidOf, takesPart}
 use Rattle.request.specs.declared.label.Family.{Family}
 use Rattle.rack.specs.File.{Kind, Label}
 use Rattle.rack.specs.File.{countOf, entryAt, kindAt, lengthAt, startOf, bodyAt, lengthFits}

@@ -9,17 +9,17 @@ use Rattle.frame.specs.Choose.{if_then_else_}
 use Rattle.frame.specs.Number.{part, Bytes}
 use Rattle.frame.specs.Ending.{endsInSlot}
 use Rattle.frame.specs.declared.verdict.Verdict.{Verdict}
-use Rattle.label.specs.Answer as label
-use Rattle.label.specs.Answer.{answerFrame}
-use Rattle.label.specs.Facts.{LabelFine}
-use Rattle.label.specs.Slots.{takesPart, during}
+use Rattle.label_body.specs.Answer as label
+use Rattle.label_body.specs.Answer.{answerFrame}
+use Rattle.label_body.specs.Facts.{LabelFine}
+use Rattle.label_body.specs.Slots.{takesPart, during}
 use Rattle.request.specs.declared.label.Family.{Family}
 use Rattle.request.specs.declared.label.Call.{Call}
 use Rattle.request.specs.declared.label.Call.the-variants.{Inventory, EndOfFrame}
 use Rattle.label.specs.declared.step.Answer.the-variants.{Silent, Found}
-use Rattle.label.proofs.FactsFine.{rules-fine, fine-rules}
-use Rattle.label.proofs.Slots.{first, step, last, said-first, said-step, during-fine, during-bytes, during-uid, during-length}
-use Rattle.label.proofs.Slots.{clear-fine, clear-bytes, clear-uid, clear-length, clear-clear, takes-clear}
+use Rattle.label_body.proofs.FactsFine.{rules-fine, fine-rules}
+use Rattle.label_body.proofs.Slots.{first, step, last, said-first, said-step, during-fine, during-bytes, during-uid, during-length}
+use Rattle.label_body.proofs.Slots.{clear-fine, clear-bytes, clear-uid, clear-length, clear-clear, takes-clear}
 use Rattle.rack.specs.File.{Kind, Label, Chip, Other}
 use Rattle.rack.specs.File.{bodyRules}
 use Rattle.rack.specs.Event.{Event, carrying, nextBody, saidBy, speaks, frameOf, answerBody}

@@ -17,10 +17,10 @@ use Rattle.frame.proofs.Bools.{if-both}
 use Rattle.frame.proofs.Numbers.{bytes-num, bytes-take, num-lt}
 use Rattle.frame.proofs.Ending.{ends-longer}
 use Rattle.frame.proofs.CheckSumFrames.{length-framed}
-use Rattle.label.specs.Answer.{answerFrame}
+use Rattle.label_body.specs.Answer.{answerFrame}
 use Rattle.label.specs.Step.{passes, ready, heeds}
-use Rattle.label.specs.Body.{loadOf}
-use Rattle.label.specs.Slots.{uidOf, takesPart}
+use Rattle.label_body.specs.Body.{loadOf}
+use Rattle.label_body.specs.Slots.{uidOf, takesPart}
 use Rattle.request.specs.declared.label.Family.{Family}
 use Rattle.request.specs.declared.label.Family.the-variants.{Any}
 use Rattle.label.specs.declared.step.Answer.the-variants.{Found}
@@ -32,7 +32,7 @@ use Rattle.inventory.specs.Walk as walk
 use Rattle.inventory.specs.Walk.{PerEvent, slotOutcome, hits, uidAt, uidsTo, uids}
 use Rattle.inventory.specs.Promise.{flat}
 use Rattle.inventory.proofs.WalkSent.{uidAlone}
-use Rattle.label.proofs.Slots.{found-frame}
+use Rattle.label_body.proofs.Slots.{found-frame}
 use Rattle.rack.proofs.FilePlaces.{gather-ext, part-in}
 use Rattle.inventory.proofs.Lists.{map-gather, Each, each-gather, gather-few}
 use Rattle.inventory.proofs.EndingsTwice.{Distinct}

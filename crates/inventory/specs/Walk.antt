@@ -9,7 +9,7 @@ use Rattle.frame.specs.Choose.{if_then_else_, gather}
 use Rattle.frame.specs.Number.{bytesOf, part}
 use Rattle.frame.specs.CheckSum.{framed}
 use Rattle.frame.specs.Ending.{longer, bytesFor}
-use Rattle.label.specs.Slots.{uidOf, takesPart, clear}
+use Rattle.label_body.specs.Slots.{uidOf, takesPart, clear}
 use Rattle.request.specs.declared.label.Family.{Family}
 use Rattle.request.specs.declared.label.Family.the-variants.{Any, Only}
 use Rattle.rack.specs.File.{Kind, Label, Chip, Other}

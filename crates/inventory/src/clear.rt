@@ -1,5 +1,5 @@
 // Slots and masks of a rack cleared, as a round leaves it.
-use label::body::clear_slot;
+use label_body::body::clear_slot;
 use rack::file::count;
 use rack::file::entry_of;
 use rack::file::kind_of;

@@ -1,6 +1,6 @@
 // The UIDs of the labels that take part, as numbers.
-use label::body::takes_part;
-use label::body::uid_of;
+use label_body::body::takes_part;
+use label_body::body::uid_of;
 use rack::file::count;
 use rack::file::entry_of;
 use rack::file::kind_of;

@@ -1,6 +1,5 @@
 -- What holds of every variant but one, where a `match` has one arm for all the others. Assumes nothing.
 use mathlib.Core.Path.{_≡_, refl}
-use mathlib.Core.Bool.{false}
 use mathlib.Core.List.{List, [], _∷_}
 use Prim.Native.Nat.{ℕ, zero, suc}
 use lib.Dec.{eqb}
@@ -10,17 +9,12 @@ use Rattle.frame.specs.Choose.{if_then_else_}
 use Rattle.request.specs.Table.{rowOf}
 use Rattle.request.specs.declared.table.Task.{Task}
 use Rattle.request.specs.declared.table.Task.the-variants as t
-use Rattle.request.specs.declared.label.Target.the-variants.{One}
-use Rattle.request.specs.declared.label.Call.{Call}
-use Rattle.request.specs.declared.label.Call.the-variants.{Ignored, Off, On, EndOfFrame, Nobody, Inventory, Fault, Do}
 use Rattle.label.specs.declared.step.Label.{Label}
 use Rattle.label.specs.Step.{silent, passed}
-use Rattle.label.specs.Body.{named}
 use Rattle.request.proofs.table.Task.{the-type as task-type}
-use Rattle.request.proofs.label.Call.{the-type as call-type}
 
 -- the n places from a on, but one
-abbrev but : ℕ → ℕ → ℕ → List ℕ
+abbrev pub but : ℕ → ℕ → ℕ → List ℕ
 but one a zero = []
 but one a (suc n) = if eqb a one then but one (suc a) n else a ∷ but one (suc a) n
 
@@ -41,18 +35,3 @@ passed-by t.LockAfi l o = refl
 passed-by t.WriteDsfid l o = refl
 passed-by t.LockDsfid l o = refl
 passed-by t.Info l o = refl
-
--- the calls but those of a task
-abbrev undone : List ℕ
-undone = but (tagOf call-type (Do One t.Quiet 0 false)) 0 8
-
-pub named-none : (x : Call) (b : List ℕ) → OneOf undone (tagOf call-type x) → 0 ≡ named x b
-unfolding named
-named-none Ignored b o = refl
-named-none Off b o = refl
-named-none On b o = refl
-named-none EndOfFrame b o = refl
-named-none Nobody b o = refl
-named-none (Inventory family sixteen bits mask) b o = refl
-named-none (Fault to code) b o = refl
-named-none (Do to task p option) b o = absurd (miss undone (tagOf call-type (Do to task p option)) tt o)

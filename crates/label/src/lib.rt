@@ -1,6 +1,2 @@
-// One label of ISO/IEC 15693-3: what it does with a request and answers, and its body's bytes and rules.
-pub mod answer;
-pub mod body;
-pub mod judge;
-pub mod locks;
+// One label of ISO/IEC 15693-3: what it does with a request, and what it answers.
 pub mod step;

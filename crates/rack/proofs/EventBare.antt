@@ -16,8 +16,8 @@ use Rattle.request.specs.declared.label.Call.{Call}
 use Rattle.request.specs.declared.label.Call.the-variants.{Ignored, Off, On, EndOfFrame, Nobody, Inventory, Fault, Do}
 use Rattle.request.specs.declared.label.Request.{Request}
 use Rattle.request.specs.declared.chip.Order.{Order}
-use Rattle.label.specs.Body.{nextLabel, saidLabel}
-use Rattle.label.proofs.Floor.{unsent-next, unsent-said}
+use Rattle.label_body.specs.Body.{nextLabel, saidLabel}
+use Rattle.label_body.proofs.Floor.{unsent-next, unsent-said}
 use Rattle.chip.specs.Body.{nextChip, saidChip}
 use Rattle.rack.specs.declared.tag.Said.{Said}
 use Rattle.rack.specs.declared.tag.Said.the-variants as s

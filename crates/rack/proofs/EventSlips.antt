@@ -16,11 +16,11 @@ use Rattle.frame.proofs.Stores.{length-part}
 use Rattle.request.specs.Label.{flag, dataOf, heard}
 use Rattle.request.specs.Chip as chips
 use Rattle.label.specs.declared.step.Answer.the-variants as a
-use Rattle.label.specs.Body.{nextLabel, saidLabel}
-use Rattle.label.specs.Facts.{LabelFine}
-use Rattle.label.specs.Slots.{clear}
-use Rattle.label.proofs.FactsFine.{long-enough}
-use Rattle.label.proofs.Floor as label
+use Rattle.label_body.specs.Body.{nextLabel, saidLabel}
+use Rattle.label_body.specs.Facts.{LabelFine}
+use Rattle.label_body.specs.Slots.{clear}
+use Rattle.label_body.proofs.FactsFine.{long-enough}
+use Rattle.label_body.proofs.Floor as label
 use Rattle.chip.specs.Body.{nextChip, blockOf}
 use Rattle.chip.specs.Write.{locked, countDown}
 use Rattle.chip.proofs.Floor as chip

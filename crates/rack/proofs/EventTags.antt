@@ -14,14 +14,14 @@ use Rattle.frame.specs.declared.verdict.Verdict.{Verdict}
 use Rattle.frame.proofs.Bools.{and-both, if-both}
 use Rattle.label.specs.declared.step.Answer.{Answer}
 use Rattle.label.specs.declared.step.Answer.the-variants as a
-use Rattle.label.specs.Body.{Sized, labelRules, nextLabel}
-use Rattle.label.specs.Facts.{LabelFine, AnswerFits}
+use Rattle.label_body.specs.Body.{Sized, labelRules, nextLabel}
+use Rattle.label_body.specs.Facts.{LabelFine, AnswerFits}
 use Rattle.request.proofs.LabelSound as label-decoded
-use Rattle.label.proofs.LocksLaws.{room-same}
-use Rattle.label.proofs.FactsFine as label-fine
-use Rattle.label.proofs.BodyKeeps as label-keeps
-use Rattle.label.proofs.AnswerFrames as label-answers
-use Rattle.label.proofs.Floor.{numbers-stay}
+use Rattle.label_body.proofs.LocksLaws.{room-same}
+use Rattle.label_body.proofs.FactsFine as label-fine
+use Rattle.label_body.proofs.BodyKeeps as label-keeps
+use Rattle.label_body.proofs.AnswerFrames as label-answers
+use Rattle.label_body.proofs.Floor.{numbers-stay}
 use Rattle.chip.specs.Body.{chipRules, saidChip}
 use Rattle.chip.proofs.BodyKeeps as chip-keeps
 use Rattle.request.proofs.ChipSound as chip-decoded

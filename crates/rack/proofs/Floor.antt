@@ -13,10 +13,10 @@ use lib.ListN.{length, getD}
 use Rattle.frame.specs.Choose.{if_then_else_, bit}
 use Rattle.frame.specs.Number.{num, part, Bytes}
 use Rattle.frame.proofs.Numbers.{bytes-part}
-use Rattle.label.specs.Locks.{lockOn}
-use Rattle.label.specs.Body as labels
-use Rattle.label.proofs.Floor as label
-use Rattle.label.proofs.FactsFine.{long-enough}
+use Rattle.label_body.specs.Locks.{lockOn}
+use Rattle.label_body.specs.Body as labels
+use Rattle.label_body.proofs.Floor as label
+use Rattle.label_body.proofs.FactsFine.{long-enough}
 use Rattle.chip.specs.Body as chips
 use Rattle.chip.specs.Write.{locked}
 use Rattle.chip.proofs.Floor as chip

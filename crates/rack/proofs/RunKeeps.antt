@@ -10,11 +10,11 @@ use native.Mathlib.Omega.{arith}
 use lib.ListN.{length, getD}
 use Rattle.frame.specs.Choose.{bit}
 use Rattle.frame.specs.Number.{num, part, Bytes}
-use Rattle.label.specs.Locks.{lockOn}
-use Rattle.label.specs.Body.{nextLabel, blocksOf, sizeOf, blockAt}
-use Rattle.label.proofs.LocksLaws.{room-same}
-use Rattle.label.proofs.FactsFine.{long-enough}
-use Rattle.label.proofs.Floor as label
+use Rattle.label_body.specs.Locks.{lockOn}
+use Rattle.label_body.specs.Body.{nextLabel, blocksOf, sizeOf, blockAt}
+use Rattle.label_body.proofs.LocksLaws.{room-same}
+use Rattle.label_body.proofs.FactsFine.{long-enough}
+use Rattle.label_body.proofs.Floor as label
 use Rattle.chip.specs.Body.{nextChip, blockOf}
 use Rattle.chip.specs.Write.{locked}
 use Rattle.chip.proofs.Floor as chip

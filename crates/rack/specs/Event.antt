@@ -7,8 +7,8 @@ use lib.Dec.{eqb, ltb, leb}
 use lib.ListN.{length, getD, drop}
 use Rattle.frame.specs.Choose.{if_then_else_, gather}
 use Rattle.request.specs.Label.{dataOf}
-use Rattle.label.specs.Body.{nextLabel, saidLabel}
-use Rattle.label.specs.Answer as label
+use Rattle.label_body.specs.Body.{nextLabel, saidLabel}
+use Rattle.label_body.specs.Answer as label
 use Rattle.request.specs.Signal.{signalOf}
 use Rattle.request.specs.declared.signal.Signal.{Signal}
 use Rattle.chip.specs.Body.{nextChip, saidChip}

@@ -6,8 +6,8 @@ use Prim.Native.Nat.{ℕ, _+_, _≤_, _<_}
 use lib.ListN.{length}
 use Rattle.frame.specs.Judge.{fine}
 use Rattle.frame.specs.Number.{part, Bytes}
-use Rattle.label.specs.Body.{Sized}
-use Rattle.label.specs.Facts.{AnswerFits}
+use Rattle.label_body.specs.Body.{Sized}
+use Rattle.label_body.specs.Facts.{AnswerFits}
 use Rattle.rack.specs.File.{Kind}
 use Rattle.rack.specs.declared.tag.Said.{Said}
 use Rattle.rack.specs.declared.tag.Said.the-variants as s

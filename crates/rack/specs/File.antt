@@ -8,7 +8,7 @@ use Rattle.frame.specs.Choose.{if_then_else_, gather}
 use Rattle.frame.specs.Number.{num, part}
 use Rattle.frame.specs.Judge.{fine, bad, orElse, firstOf}
 use Rattle.frame.specs.declared.verdict.Verdict.{Verdict}
-use Rattle.label.specs.Body.{labelRules}
+use Rattle.label_body.specs.Body.{labelRules}
 use Rattle.chip.specs.Body.{chipRules}
 
 -- ---- what stands where

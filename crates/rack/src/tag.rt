@@ -61,7 +61,7 @@ pub fn judge_tag(kind: u8, body: &[u8]) -> Verdict
     ensures { λ r. ⌜ (r ≡ bodyRules (kindOf kind) (now (body .entry))) × (r .place ≤ 8480) ⌝ }
 {
     if kind == LABEL {
-        return label::judge::judge_label(body);
+        return label_body::judge::judge_label(body);
     }
     if kind == CHIP {
         return chip::body::judge_chip(body);
@@ -77,7 +77,7 @@ pub fn step_tag(kind: u8, body: &mut [u8], signal: Signal, bytes: &[u8], draw: u
 {
     if kind == LABEL {
         let request = signal.label;
-        return Said::Label(label::body::step(body, request, bytes));
+        return Said::Label(label_body::body::step(body, request, bytes));
     }
     if kind == CHIP {
         let order = signal.chip;
@@ -92,7 +92,7 @@ pub fn speaking(said: Said) -> bool
 {
     match said {
         Said::Nothing => false,
-        Said::Label(a) => label::answer::speaking(a),
+        Said::Label(a) => label_body::answer::speaking(a),
         Said::Chip(a) => chip::answer::speaking(a),
     }
 }
@@ -105,7 +105,7 @@ pub fn write_said(said: Said, body: &[u8], answer: &mut [u8]) -> usize
 {
     match said {
         Said::Nothing => 0,
-        Said::Label(a) => label::answer::write_answer(a, body, answer),
+        Said::Label(a) => label_body::answer::write_answer(a, body, answer),
         Said::Chip(a) => chip::answer::write_answer(a, body, answer),
     }
 }

@@ -19,7 +19,7 @@ use Rattle.request.specs.declared.table.Task.{Task}
 use Rattle.request.specs.declared.table.Success.{Success}
 use Rattle.request.specs.declared.table.Success.the-variants as s
 use Rattle.request.specs.declared.label.Target.{Target}
-use Rattle.label.specs.Answer.{answerFrame}
+use Rattle.label_body.specs.Answer.{answerFrame}
 use Rattle.reader.specs.declared.command.ChipTask.{ChipTask}
 use Rattle.reader.specs.declared.command.ChipTask.the-variants as p
 use Rattle.reader.specs.declared.command.Command.{Command}

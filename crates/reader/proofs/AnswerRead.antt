@@ -22,12 +22,12 @@ use Rattle.request.specs.declared.label.Target.{Target}
 use Rattle.request.specs.declared.label.Family.{Family}
 use Rattle.label.specs.declared.step.Answer.{Answer}
 use Rattle.label.specs.declared.step.Answer.the-variants as a
-use Rattle.label.specs.Locks.{lockOn}
-use Rattle.label.specs.Body.{sizeOf, blockAt}
-use Rattle.label.specs.Facts.{LabelFine, AnswerFits}
-use Rattle.label.specs.Answer as labelAnswer
-use Rattle.label.proofs.LocksLaws.{lock-one}
-use Rattle.label.proofs.BodyRoom.{sized-long, block-fits}
+use Rattle.label_body.specs.Locks.{lockOn}
+use Rattle.label_body.specs.Body.{sizeOf, blockAt}
+use Rattle.label_body.specs.Facts.{LabelFine, AnswerFits}
+use Rattle.label_body.specs.Answer as labelAnswer
+use Rattle.label_body.proofs.LocksLaws.{lock-one}
+use Rattle.label_body.proofs.BodyRoom.{sized-long, block-fits}
 use Rattle.chip.specs.declared.step.Answer.the-variants as ca
 use Rattle.chip.specs.Body.{placeOf}
 use Rattle.chip.specs.Answer as chipAnswer

@@ -13,8 +13,8 @@ use Rattle.request.specs.declared.table.Task.the-variants as t
 use Rattle.request.specs.declared.label.Target.{Target}
 use Rattle.request.specs.declared.label.Call.{Call}
 use Rattle.request.specs.declared.label.Call.the-variants as k
-use Rattle.label.specs.Body as label
-use Rattle.label.proofs.Floor.{unsent-next, unsent-said}
+use Rattle.label_body.specs.Body as label
+use Rattle.label_body.proofs.Floor.{unsent-next, unsent-said}
 use Rattle.reader.specs.declared.command.Command.{Command}
 use Rattle.reader.specs.declared.command.Command.the-variants as c
 use Rattle.reader.specs.Command.{valid}

@@ -15,7 +15,7 @@ use Rattle.request.specs.declared.label.Target.{Target}
 use Rattle.request.specs.declared.label.Family.{Family}
 use Rattle.label.specs.declared.step.Answer as label
 use Rattle.label.specs.declared.step.Answer.the-variants as a
-use Rattle.label.specs.Answer as labelAnswer
+use Rattle.label_body.specs.Answer as labelAnswer
 use Rattle.chip.specs.declared.step.Answer as chip
 use Rattle.chip.specs.declared.step.Answer.the-variants as x
 use Rattle.chip.specs.Answer as chipAnswer

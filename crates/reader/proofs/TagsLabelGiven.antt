@@ -34,14 +34,14 @@ use Rattle.label.specs.declared.step.Answer.{Answer}
 use Rattle.label.specs.declared.step.Answer.the-variants as a
 use Rattle.label.specs.declared.step.Stepped.{Stepped}
 use Rattle.label.specs.Step as steps
-use Rattle.label.specs.Body as label
-use Rattle.label.specs.Locks.{lockOn}
-use Rattle.label.specs.Answer.{speaks, blockBytes, answerFrame}
-use Rattle.label.specs.Facts.{LabelFine}
-use Rattle.label.specs.Slots.{takesPart, during}
-use Rattle.label.proofs.FactsFine.{fine-rules}
-use Rattle.label.proofs.BodyRoom.{sized-long}
-use Rattle.label.proofs.Slots.{during-taking, during-uid, said-first, said-step, seek-getD, found-frame}
+use Rattle.label_body.specs.Body as label
+use Rattle.label_body.specs.Locks.{lockOn}
+use Rattle.label_body.specs.Answer.{speaks, blockBytes, answerFrame}
+use Rattle.label_body.specs.Facts.{LabelFine}
+use Rattle.label_body.specs.Slots.{takesPart, during}
+use Rattle.label_body.proofs.FactsFine.{fine-rules}
+use Rattle.label_body.proofs.BodyRoom.{sized-long}
+use Rattle.label_body.proofs.Slots.{during-taking, during-uid, said-first, said-step, seek-getD, found-frame}
 use Rattle.reader.specs.declared.command.Command.the-variants as c
 use Rattle.reader.specs.declared.answer.Meaning.the-variants as m
 use Rattle.reader.specs.declared.answer.Reading.{Reading}

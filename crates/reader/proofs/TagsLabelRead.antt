@@ -32,14 +32,14 @@ use Rattle.label.specs.declared.step.Answer.{Answer}
 use Rattle.label.specs.declared.step.Answer.the-variants as a
 use Rattle.label.specs.declared.step.Stepped.{Stepped}
 use Rattle.label.specs.Step as steps
-use Rattle.label.specs.Body as label
-use Rattle.label.specs.Answer.{answerFrame}
-use Rattle.label.specs.Facts.{LabelFine}
-use Rattle.label.specs.Slots.{takesPart, clear, during}
-use Rattle.label.proofs.FactsFine.{rules-fine}
-use Rattle.label.proofs.AnswerFrames.{told-of}
-use Rattle.label.proofs.BodyRoom.{sized-long}
-use Rattle.label.proofs.Slots.{during-uid, first, next-none, step, last, said-none, said-step, said-last}
+use Rattle.label_body.specs.Body as label
+use Rattle.label_body.specs.Answer.{answerFrame}
+use Rattle.label_body.specs.Facts.{LabelFine}
+use Rattle.label_body.specs.Slots.{takesPart, clear, during}
+use Rattle.label_body.proofs.FactsFine.{rules-fine}
+use Rattle.label_body.proofs.AnswerFrames.{told-of}
+use Rattle.label_body.proofs.BodyRoom.{sized-long}
+use Rattle.label_body.proofs.Slots.{during-uid, first, next-none, step, last, said-none, said-step, said-last}
 use Rattle.reader.specs.declared.command.Command.{Command}
 use Rattle.reader.specs.declared.command.Command.the-variants as c
 use Rattle.reader.specs.declared.answer.Reading.{Reading}

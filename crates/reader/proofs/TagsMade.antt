@@ -14,10 +14,10 @@ use Rattle.frame.specs.Number.{part, Bytes}
 use Rattle.frame.proofs.Lists.{window, window-all}
 use Rattle.frame.proofs.Numbers.{bytes-append}
 use Rattle.frame.proofs.Stores.{bytes-cons}
-use Rattle.label.specs.Locks.{lockOn, lockRoom}
-use Rattle.label.specs.Body.{Sized, sizeOf, blockAt}
-use Rattle.label.proofs.LocksLaws.{lockRun, run-length, run-bytes, run-room, run-lock, run-fine}
-use Rattle.label.specs.Facts.{LabelFine}
+use Rattle.label_body.specs.Locks.{lockOn, lockRoom}
+use Rattle.label_body.specs.Body.{Sized, sizeOf, blockAt}
+use Rattle.label_body.proofs.LocksLaws.{lockRun, run-length, run-bytes, run-room, run-lock, run-fine}
+use Rattle.label_body.specs.Facts.{LabelFine}
 
 -- ---- lists of bytes
 

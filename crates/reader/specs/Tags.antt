@@ -9,9 +9,9 @@ use lib.ListN.{length, getD}
 use Rattle.frame.specs.Number.{part, Bytes}
 use Rattle.frame.specs.Judge.{fine}
 use Rattle.request.specs.Label as labels
-use Rattle.label.specs.Locks.{lockOn}
-use Rattle.label.specs.Body as label
-use Rattle.label.specs.Answer as labelAnswer
+use Rattle.label_body.specs.Locks.{lockOn}
+use Rattle.label_body.specs.Body as label
+use Rattle.label_body.specs.Answer as labelAnswer
 use Rattle.label.specs.declared.step.Answer as labelStep
 use Rattle.label.specs.declared.step.Answer.the-variants as a
 use Rattle.request.specs.declared.label.Call.the-variants as k
