@@ -176,7 +176,7 @@ module _ (r : List ℕ) (event : Event) (ds : List ℕ) where
             there = omega arith;
             spoke = e;
             alone = λ i h q.
-            ⊎-elim (λ (k : i ≡ n). k) (λ (j : i ≡ n → ⊥). absurd (none-spoke n k i (omega arith) q)) (same-or-not i n);
+                ⊎-elim (λ (k : i ≡ n). k) (λ (j : i ≡ n → ⊥). absurd (none-spoke n k i (omega arith) q)) (same-or-not i n);
             one = spoken-more n e ∙ ap (λ (l : List (List ℕ)). l ++ (frameOf (saidAt r event ds n) (bodyAt r n) ∷ [])) (length-zero (heard n) k);
           }
       go before false e =
@@ -186,8 +186,8 @@ module _ (r : List ℕ) (event : Event) (ds : List ℕ) where
             there = omega (arith, l .there);
             spoke = l .spoke;
             alone = λ i h q.
-            ⊎-elim (λ (k : i ≡ n). absurd (false≢true (sym e ∙ ap (λ (j : ℕ). speaks (saidAt r event ds j)) (sym k) ∙ q)))
-            (λ (j : i ≡ n → ⊥). l .alone i (omega arith) q) (same-or-not i n);
+                ⊎-elim (λ (k : i ≡ n). absurd (false≢true (sym e ∙ ap (λ (j : ℕ). speaks (saidAt r event ds j)) (sym k) ∙ q)))
+                (λ (j : i ≡ n → ⊥). l .alone i (omega arith) q) (same-or-not i n);
             one = silent-more n e ∙ l .one;
           }
 

@@ -131,7 +131,8 @@ module _ (to : Target) (option : Bool) (family : Family) (bits mask : ℕ) (uid 
         (bodies-fine r fine family bits mask short low s (omega arith)) (tag-reads (draws bits mask (suc s))))
 
 pub demand-2-slots : Demand2Slots
-demand-2-slots to option family bits mask uid d r draws outs q s h =
-    (same-request to option family bits mask uid d (q .request),
-    slot-understood to option family bits mask uid d (q .request) r draws outs (record { rack = rack-fine r (q .wellFormed); bytes = q .bytes })
-    (record { size = q .drawn; room = q .room }) s h)
+demand-2-slots to option family bits mask uid d r draws outs q s h = (
+  same-request to option family bits mask uid d (q .request),
+  slot-understood to option family bits mask uid d (q .request) r draws outs (record { rack = rack-fine r (q .wellFormed); bytes = q .bytes })
+      (record { size = q .drawn; room = q .room }) s h,
+)

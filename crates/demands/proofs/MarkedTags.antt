@@ -72,12 +72,25 @@ slots-hold = (λ b r. rw (slot-said 1 _ b r (omega arith)), λ b r. rw (slot-sai
 pub chips-hold : Says C × (Says D × (Says E × (Says F × (Says G × (Says H × (Says I × Says J))))))
 unfolding Says nextBody chips.heard chips.decode chips.long chips.listed crcWith crcRun crcByte crcBits crcBit framedWith rightWith
     chip.nextChip chip.stepped chip.named chip.worked chip.loadOf chip.storeOf chip.placeOf step.act step.write written countDown lockDown reloads locked
-chips-hold =
-    (record { block = refl; reload = refl },
-    (record { block = refl; reload = refl },
-    (record { block = refl; reload = refl },
-    (record { block = refl; reload = refl },
-    (record { block = refl; reload = refl },
-    (record { block = refl; reload = refl },
-    (record { block = refl; reload = refl },
-    (record { block = refl; reload = refl }, refl))))))))
+chips-hold = (
+  record { block = refl; reload = refl },
+  (
+    record { block = refl; reload = refl },
+    (
+      record { block = refl; reload = refl },
+      (
+        record { block = refl; reload = refl },
+        (
+          record { block = refl; reload = refl },
+          (
+            record { block = refl; reload = refl },
+            (
+              record { block = refl; reload = refl },
+              (record { block = refl; reload = refl }, refl),
+            ),
+          ),
+        ),
+      ),
+    ),
+  ),
+)

@@ -73,8 +73,8 @@ pub record ReadBack (c : Command) (uid d : List ℕ) (event : Event) (r ds : Lis
   pub alone : (i : ℕ) → i < countOf r → speaks (saidAt r event ds i) ≡ true → i ≡ who
   pub reading : readingOf c uid (length d) (take (o .report .length) (o .out)) ≡ meaningOf (saidAt r event ds who) (bodyAt r who)
   pub block :
-    bytesTold (readingOf c uid (length d) (take (o .report .length) (o .out)) .meaning) (take (o .report .length) (o .out))
-    ≡ blockMeant (saidAt r event ds who) (bodyAt r who)
+      bytesTold (readingOf c uid (length d) (take (o .report .length) (o .out)) .meaning) (take (o .report .length) (o .out))
+      ≡ blockMeant (saidAt r event ds who) (bodyAt r who)
 
 pub record Understood (c : Command) (uid d : List ℕ) (event : Event) (r ds : List ℕ) (o : Outcome) : Type 0 where
   pub taken : Taken event r ds o

@@ -1,10 +1,10 @@
 // The frame of a label's answer.
 use crate::body::place;
 use crate::locks::lock_on;
-use label::step::Answer;
 use frame::check_sum::seal;
 use frame::part::seal_part;
 use frame::put::put_bytes;
+use label::step::Answer;
 ghost use mathlib.Core.Path.{_≡_};
 ghost use Prim.Native.Nat.{_≤_};
 ghost use lib.ListN.{length, getD};

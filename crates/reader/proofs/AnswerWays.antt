@@ -1,19 +1,21 @@
 -- The ways out of the answer reader's functions that no ladder of tests on numbers closes: where a function called decides, and the arms of
 -- a match, each the definition at that case. Each is a law over plain variables; the set `ways` holds those that a search is to find.
 -- Assumes nothing.
-use mathlib.Core.Path.{_≡_, ap, _∙_}
-use mathlib.Core.Bool.{Bool, true, false, not, _&&_}
+use mathlib.Core.Path.{_≡_, refl, sym, ap, _∙_}
+use mathlib.Core.Bool.{Bool, true, false, not, _&&_, false≢true}
 use mathlib.Core.List.{List}
 use Prim.Native.Nat.{ℕ, _-_, _^_, _≤_, _<_}
 use native.Mathlib.Omega.{arith}
-use lib.Dec.{eqb, leb}
+use lib.Dec.{eqb, ltb, leb}
 use lib.ListN.{length, getD, take}
 use lib.Seq.{take-all}
-use borrow.Author.Tests.{lt-ltb, le-ltb, eq-eqb, not-true, not-false}
+use borrow.Author.Tests.{lt-ltb, le-ltb, eq-eqb, leb-true, leb-false, not-true, not-false}
 use Rattle.frame.specs.Number.{num, part, Bytes}
-use Rattle.frame.specs.CheckSum.{right}
+use Rattle.frame.specs.Choose.{if_then_else_}
+use Rattle.frame.specs.CheckSum.{right, content}
 use Rattle.frame.specs.Ending.{endsIn}
 use Rattle.frame.proofs.Numbers.{num-lt}
+use Rattle.frame.proofs.Bools.{and-both}
 use Rattle.frame.proofs.Tests.{tests}
 use Rattle.request.specs.Table.{rowOf, hasAnswer}
 use Rattle.request.specs.declared.table.Task.{Task}
@@ -96,21 +98,31 @@ pub answer-invalid : (r : Reading) (c : Command) (uid f : List ℕ) (n : ℕ) (b
 unfolding readingOf
 answer-invalid r c uid f n b h v e = rw (← h, v) e
 
-module _ (r : Reading) (c : Command) (uid f : List ℕ) (n : ℕ) (b : Bool) (h : b ≡ valid c n) (v : not b ≡ false) where
-  pub answer-short : length f < 3 → r ≡ said (m.Refused 8) → r ≡ readingOf c uid n f
-  unfolding readingOf
-  answer-short l e = rw (← h, v, lt-ltb (length f) 3 l) e
+-- a frame that holds an answer
+pub whole : (f : List ℕ) (w : Bool) → w ≡ (leb 3 (length f) && right f) → not w ≡ false → (3 ≤ length f) × (right f ≡ true)
+whole f w g k =
+    let x = and-both (leb 3 (length f)) (right f) (sym g ∙ not-false w k) in
+    (leb-true 3 (length f) (x .0), x .1)
 
-  module _ (l : 3 ≤ length f) (w : Bool) (g : w ≡ right f) where
-    pub answer-wrong : not w ≡ true → r ≡ said (m.Refused 8) → r ≡ readingOf c uid n f
+module _ (r : Reading) (c : Command) (uid f : List ℕ) (n : ℕ) (b : Bool) (h : b ≡ valid c n) (v : not b ≡ false) where
+  -- w says whether the frame holds an answer
+  module _ (w : Bool) (g : w ≡ (leb 3 (length f) && right f)) where
+    pub answer-broken : not w ≡ true → r ≡ said (m.Refused 8) → r ≡ readingOf c uid n f
     unfolding readingOf
-    answer-wrong k e = rw (← h, v, le-ltb (length f) 3 l, ← g, k) e
+    answer-broken k e = rw (← h, v) (go (leb 3 (length f)) refl (right f) refl (ap not (sym g) ∙ k))
+      where
+        go : (x : Bool) → leb 3 (length f) ≡ x → (y : Bool) → right f ≡ y → not (x && y) ≡ true
+            → r ≡ (if ltb (length f) 3 then said (m.Refused 8) else if not (right f) then said (m.Refused 8) else shapeOf c uid (content f))
+        go false l y q z = rw (lt-ltb (length f) 3 (leb-false 3 (length f) l)) e
+        go true l false q z = rw (le-ltb (length f) 3 (leb-true 3 (length f) l), q) e
+        go true l true q z = absurd (false≢true z)
 
     pub answer-right : not w ≡ false → r ≡ shapeOf c uid (take (length f - 2 - 0) f) → r ≡ readingOf c uid n f
     unfolding readingOf
     answer-right k e =
+        let x = whole f w g k in
         let q : length f - 2 - 0 ≡ length f - 2 = omega arith in
-        rw (← h, v, le-ltb (length f) 3 l, ← g, k) (e ∙ ap (λ (x : ℕ). shapeOf c uid (take x f)) q)
+        rw (← h, v, le-ltb (length f) 3 (x .0), x .1) (e ∙ ap (λ (i : ℕ). shapeOf c uid (take i f)) q)
 
 pub ruleset ways = (
   tests,
@@ -127,7 +139,6 @@ pub ruleset ways = (
   chip-arm,
   shape-arm,
   answer-invalid,
-  answer-short,
-  answer-wrong,
+  answer-broken,
   answer-right,
 )

@@ -16,6 +16,8 @@ use request::table::row_of;
 ghost use mathlib.Core.Path.{_≡_};
 ghost use mathlib.Core.Bool.{true, false, _&&_};
 ghost use lib.Dec.{eqb, leb};
+ghost use lib.ListN.{length};
+ghost use Rattle.frame.specs.CheckSum.{right};
 ghost use Rattle.request.specs.Table.{hasAnswer};
 ghost use Rattle.reader.specs.declared.command.ChipTask.the-variants.{Initiate, Marker, Select, Read, Uid};
 ghost use Rattle.reader.specs.declared.answer.Meaning.the-variants.{Refused};
@@ -331,6 +333,16 @@ fn shape(command: Command, uid: [u8; 8], c: &[u8]) -> Reading
     }
 }
 
+// Whether a frame holds an answer: three bytes or more, and its check sum is right.
+fn is_whole(frame: &[u8]) -> bool
+    ensures { λ r. ⌜ r ≡ leb 3 (length (now (frame .entry))) && right (now (frame .entry)) ⌝ }
+{
+    if frame.len() < 3 {
+        return false;
+    }
+    is_right(frame)
+}
+
 // What frame means to a command, sent for uid where it is for one UID, with n bytes of data.
 pub fn read_answer(command: Command, uid: [u8; 8], n: usize, frame: &[u8]) -> Reading
     ensures { λ r. ⌜ r ≡ readingOf command uid n (now (frame .entry)) ⌝ }
@@ -338,10 +350,7 @@ pub fn read_answer(command: Command, uid: [u8; 8], n: usize, frame: &[u8]) -> Re
     if !is_valid(command, n) {
         return refused(7);
     }
-    if frame.len() < 3 {
-        return refused(8);
-    }
-    if !is_right(frame) {
+    if !is_whole(frame) {
         return refused(8);
     }
     let m = frame.len() - 2;

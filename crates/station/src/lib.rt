@@ -1,12 +1,12 @@
 // The calls for a station's test bench, in C: numbers, bytes with their length, plain structs. include/sackbutflare.h declares them.
-use frame::uid::uid_number;
-use inventory::walk::Walked;
-use rack::event::Report;
 use face::fields::Fields;
 use face::fields::command_of;
 use face::fields::family_of;
 use face::told::Told;
 use face::told::tell;
+use frame::uid::uid_number;
+use inventory::walk::Walked;
+use rack::event::Report;
 use reader::writer::Written;
 ghost use mathlib.Core.Path.{_≡_};
 ghost use Rattle.frame.specs.CheckSum.{crcOf};

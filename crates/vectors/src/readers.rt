@@ -2,13 +2,13 @@
 use crate::meanings::print_reading;
 use crate::racks::play;
 use crate::sums::seal_into;
+use face::fields::Fields;
+use face::fields::command_of;
 use frame::number::byte_at;
 use frame::number::number_at;
 use rack::event::LEAST;
 use reader::answer::read_answer;
 use reader::command::Command;
-use face::fields::Fields;
-use face::fields::command_of;
 use reader::writer::Written;
 use reader::writer::write_request;
 use script::draws::draws_for;
