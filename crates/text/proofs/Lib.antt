@@ -1,9 +1,12 @@
--- The laws of words, of hex digits and of runs of them.
+-- The laws of words, of numbers in decimal, of hex digits and of runs of them.
 pub mod WordsLead
 pub mod WordsSame
 pub mod WordsFirst
 pub mod HexDigits
 pub mod HexText
+pub mod HexPairs
+pub mod DecimalDigits
+pub mod DecimalLine
 pub mod RunsPieces
 pub mod RunsPlaces
 pub mod RunsWithin

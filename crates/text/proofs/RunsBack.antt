@@ -1,17 +1,19 @@
 -- Bytes in hex are read back. Assumes nothing.
 use mathlib.Core.Path.{_≡_, refl, ap, sym, _∙_}
 use mathlib.Core.Bool.{Bool, true, false}
-use mathlib.Core.List.{List, [], _∷_}
+use mathlib.Core.List.{List, [], _∷_, reverse, reverse-cons}
 use Prim.Native.Nat.{ℕ, suc, _+_, _*_, _/_, _%_, _≤_, _<_}
 use native.Mathlib.Nat.{add-zero, zero-add}
 use native.Mathlib.Omega.{arith}
 use borrow.Author.Tests.{le-ltb, lt-leb}
 use lib.Dec.{ltb}
-use lib.ListN.{length}
+use lib.ListN.{length, length-reverse}
 use Rattle.frame.specs.Number.{Bytes}
+use Rattle.frame.proofs.Numbers.{bytes-append}
+use Rattle.frame.proofs.Stores.{bytes-cons}
 use Rattle.text.proofs.HexDigits.{value-digit, digit-solid}
 use Rattle.text.proofs.RunsPlaces.{read-blank, read-piece}
-use Rattle.text.specs.Hex.{digitOf, hexText}
+use Rattle.text.specs.Hex.{digitOf, hexText, pairsText, uidText}
 use Rattle.text.specs.Words.{isBlank}
 use Rattle.text.specs.Runs.{secondDigit, firstDigit, pieceOf, stop, onward, readHex, hexOf}
 use Rattle.text.specs.declared.hex.HexRun.the-variants.{Good}
@@ -33,24 +35,61 @@ module _ (b : ℕ) (h : b < 256) (more : List ℕ) where
       ap (firstDigit room n at gap digits) (value-digit (b / 16) x)
       ∙ rw (k, digit-solid (b % 16)) (ap (secondDigit room n at (b / 16)) (value-digit (b % 16) y) ∙ rw (lt-leb room n l) (ap Byte z))
 
+  -- they are one piece, behind a blank too
+  read-pair : (room n at : ℕ) (gap : Bool) → n < room → readHex room n at gap digits ≡ onward (Byte b) (readHex room (suc n) (at + 2) false more)
+  read-pair room n at gap l =
+      read-piece room n at gap (digitOf (b / 16)) (digitOf (b % 16) ∷ more) (digit-solid (b / 16))
+      ∙ ap (λ (p : Piece). onward p (readHex room (suc n) (at + 2) false more)) (piece-text room n at gap l)
+
   read-byte : (room n at : ℕ) (gap : Bool) → n < room
       → readHex room n at gap (32 ∷ digits) ≡ onward (Byte b) (readHex room (suc n) (suc at + 2) false more)
   unfolding isBlank
-  read-byte room n at gap l =
-      read-blank room n at gap 32 digits refl
-      ∙ read-piece room n (suc at) true (digitOf (b / 16)) (digitOf (b % 16) ∷ more) (digit-solid (b / 16))
-      ∙ ap (λ (p : Piece). onward p (readHex room (suc n) (suc at + 2) false more)) (piece-text room n (suc at) true l)
+  read-byte room n at gap l = read-blank room n at gap 32 digits refl ∙ read-pair room n (suc at) true l
 
-read-text : (room n at : ℕ) (gap : Bool) (bs : List ℕ) → Bytes bs → n + length bs ≤ room
-    → readHex room n at gap (hexText bs) ≡ record { bytes = bs; run = Good (n + length bs) }
-read-text room n at gap [] f h = ap (λ (k : ℕ). stop (Good k)) (sym (add-zero n))
-read-text room n at gap (b ∷ bs) f h =
-    let e : suc n + length bs ≡ n + suc (length bs) = omega arith in
-    read-byte b (f 0) (hexText bs) room n at gap (omega arith)
-    ∙ ap (onward (Byte b)) (read-text room (suc n) (suc at + 2) false bs (λ i. f (suc i)) (omega arith))
-    ∙ ap (λ (k : ℕ). record { bytes = b ∷ bs; run = Good k }) e
+-- all of them, n bytes before them: a space before each, or nothing between them
+module _ (room : ℕ) where
+  abbrev Back : (List ℕ → List ℕ) → List ℕ → Type 0
+  Back text bs = (n at : ℕ) (gap : Bool) → n + length bs ≤ room → readHex room n at gap (text bs) ≡ record { bytes = bs; run = Good (n + length bs) }
+
+  none-back : (n : ℕ) → stop (Good n) ≡ record { bytes = []; run = Good (n + 0) }
+  none-back n = ap (λ (k : ℕ). stop (Good k)) (sym (add-zero n))
+
+  more-back : (b n at : ℕ) (bs t : List ℕ) → readHex room (suc n) at false t ≡ record { bytes = bs; run = Good (suc n + length bs) }
+      → onward (Byte b) (readHex room (suc n) at false t) ≡ record { bytes = b ∷ bs; run = Good (n + suc (length bs)) }
+  more-back b n at bs t e =
+      let k : suc n + length bs ≡ n + suc (length bs) = omega arith in
+      ap (onward (Byte b)) e ∙ ap (λ (k : ℕ). record { bytes = b ∷ bs; run = Good k }) k
+
+  read-text : (bs : List ℕ) → Bytes bs → Back hexText bs
+  read-text [] f n at gap h = none-back n
+  read-text (b ∷ bs) f n at gap h =
+      read-byte b (f 0) (hexText bs) room n at gap (omega arith)
+      ∙ more-back b n (suc at + 2) bs (hexText bs) (read-text bs (λ i. f (suc i)) (suc n) (suc at + 2) false (omega arith))
+
+  read-pairs : (bs : List ℕ) → Bytes bs → Back pairsText bs
+  read-pairs [] f n at gap h = none-back n
+  read-pairs (b ∷ bs) f n at gap h =
+      read-pair b (f 0) (pairsText bs) room n at gap (omega arith)
+      ∙ more-back b n (at + 2) bs (pairsText bs) (read-pairs bs (λ i. f (suc i)) (suc n) (at + 2) false (omega arith))
+
+  back : (text : List ℕ → List ℕ) (bs : List ℕ) → Back text bs → length bs ≤ room → hexOf room (text bs) ≡ record { bytes = bs; run = Good (length bs) }
+  unfolding hexOf
+  back text bs f h = f 0 0 false (omega arith) ∙ ap (λ (k : ℕ). record { bytes = bs; run = Good k }) (zero-add (length bs))
+
+bytes-reverse : (u : List ℕ) → Bytes u → Bytes (reverse u)
+bytes-reverse [] f = f
+bytes-reverse (b ∷ u) f =
+    rw (reverse-cons b u) (bytes-append (reverse u) (b ∷ []) (bytes-reverse u (λ i. f (suc i))) (bytes-cons b [] (f 0) (λ i. omega arith)))
 
 pub text-read : (room : ℕ) (bs : List ℕ) → Bytes bs → length bs ≤ room → hexOf room (hexText bs) ≡ record { bytes = bs; run = Good (length bs) }
-unfolding hexOf
-text-read room bs f h =
-    read-text room 0 0 false bs f (omega arith) ∙ ap (λ (k : ℕ). record { bytes = bs; run = Good k }) (zero-add (length bs))
+text-read room bs f h = back room hexText bs (read-text room bs f) h
+
+pub pairs-read : (room : ℕ) (bs : List ℕ) → Bytes bs → length bs ≤ room → hexOf room (pairsText bs) ≡ record { bytes = bs; run = Good (length bs) }
+pairs-read room bs f h = back room pairsText bs (read-pairs room bs f) h
+
+-- a UID's text, read back, is the UID from its high byte on
+pub uid-read : (room : ℕ) (u : List ℕ) → Bytes u → length u ≤ room → hexOf room (uidText u) ≡ record { bytes = reverse u; run = Good (length u) }
+unfolding uidText
+uid-read room u f h =
+    let l = length-reverse u in
+    pairs-read room (reverse u) (bytes-reverse u f) (omega arith) ∙ ap (λ (k : ℕ). record { bytes = reverse u; run = Good k }) l

@@ -1,5 +1,5 @@
 -- Hex digits and their values. Assumes nothing.
-use mathlib.Core.List.{List, [], _∷_}
+use mathlib.Core.List.{List, [], _∷_, reverse}
 use Prim.Native.Nat.{ℕ, _+_, _-_, _/_, _%_}
 use lib.Dec.{ltb}
 use Rattle.frame.specs.Choose.{if_then_else_}
@@ -25,3 +25,12 @@ valueOf c =
 abbrev pub hexText : List ℕ → List ℕ
 hexText [] = []
 hexText (b ∷ bs) = 32 ∷ digitOf (b / 16) ∷ digitOf (b % 16) ∷ hexText bs
+
+-- bytes in hex with nothing between them: two capitals each
+abbrev pub pairsText : List ℕ → List ℕ
+pairsText [] = []
+pairsText (b ∷ bs) = digitOf (b / 16) ∷ digitOf (b % 16) ∷ pairsText bs
+
+-- a UID, whose low byte comes first, is written high byte first
+unfoldable pub uidText : List ℕ → List ℕ
+uidText u = pairsText (reverse u)

@@ -1,4 +1,5 @@
 -- What the contracts cite.
+pub mod Decimal
 pub mod Hex
 pub mod Lines
 pub mod Runs

@@ -4,7 +4,7 @@ ghost use mathlib.Core.List.{[], _∷_};
 ghost use Prim.Native.Nat.{_+_, _*_, _/_, _%_, _<_, _≤_};
 ghost use lib.ListN.{length, getD};
 ghost use lib.Seq.{sets};
-ghost use Rattle.text.specs.Hex.{digitOf, valueOf, hexText};
+ghost use Rattle.text.specs.Hex.{digitOf, valueOf, hexText, pairsText, uidText};
 ghost use Rattle.text.specs.Runs.{unread, hexOf};
 ghost use Rattle.text.specs.RunsPlaces.{gapAt, pieceAt};
 use crate::print::say;
@@ -146,16 +146,35 @@ fn put(text: &mut [u8], n: usize, b: u8)
     text[n + 2] = low(b);
 }
 
+// A byte as two capitals from a place on; returns the place behind them.
+pub fn put_byte(out: &mut [u8], at: usize, b: u8) -> usize
+    requires { ⌜ at + 2 ≤ length (now out) ⌝ }
+    ensures { λ r. ⌜ (r ≡ at + 2) × (now (out .exit) ≡ sets (now (out .entry)) at (pairsText (b ∷ []))) ⌝ }
+{
+    out[at] = high(b);
+    out[at + 1] = low(b);
+    at + 2
+}
+
+// A UID, given low byte first, from a place on: high byte first. Returns the place behind it.
+pub fn put_uid(out: &mut [u8], at: usize, u: [u8; 8]) -> usize
+    requires { ⌜ at + 16 ≤ length (now out) ⌝ }
+    ensures { λ r. ⌜ (r ≡ at + 16) × (now (out .exit) ≡ sets (now (out .entry)) at (uidText u)) ⌝ }
+{
+    let mut n = at;
+    let mut i = 8;
+    while 0 < i {
+        i -= 1;
+        n = put_byte(out, n, u[i]);
+    }
+    n
+}
+
 // A UID, given low byte first: high byte first.
 pub fn print_uid(u: [u8; 8]) {
-    print_byte(u[7]);
-    print_byte(u[6]);
-    print_byte(u[5]);
-    print_byte(u[4]);
-    print_byte(u[3]);
-    print_byte(u[2]);
-    print_byte(u[1]);
-    print_byte(u[0]);
+    let mut text = [0u8; 16];
+    put_uid(&mut text, 0, u);
+    say(&text);
 }
 
 // Reads pairs of hex digits from s to the start of out. Blanks may stand around pairs, and a `#` behind a blank ends the run.

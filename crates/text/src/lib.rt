@@ -3,4 +3,5 @@ pub mod file;
 pub mod hex;
 pub mod lines;
 pub mod print;
+pub mod put;
 pub mod words;
