@@ -1,4 +1,4 @@
--- The laws of words, of numbers in decimal, of hex digits and of runs of them.
+-- The laws of words, of numbers in decimal, of hex digits and of runs of them, and of lines.
 pub mod WordsLead
 pub mod WordsSame
 pub mod WordsFirst
@@ -11,3 +11,6 @@ pub mod RunsPieces
 pub mod RunsPlaces
 pub mod RunsWithin
 pub mod RunsBack
+pub mod LinesPlaces
+pub mod LinesBrought
+pub mod LinesNext

@@ -3,9 +3,12 @@
 // A line is what stands before a newline, or before the end of the input, without a carriage return right before its newline. A line of as many
 // bytes as the buffer has, or more, is too long, and is passed over to its newline.
 use crate::file::read_part;
-ghost use Prim.Native.Nat.{_≤_};
+ghost use mathlib.Core.Path.{_≡_};
+ghost use Prim.Native.Nat.{_-_, _≤_};
 ghost use lib.ListN.{length};
-ghost use Rattle.text.specs.Lines.{Inside};
+ghost use Rattle.text.specs.Lines.{Inside, isEnd, holds, endedAt, noLine, newlineIn, lineAt, lastLine, stoppedAt, toFront};
+ghost use Rattle.text.specs.Lines.{nextOf, Brought, Follows};
+ghost use Rattle.text.specs.declared.lines.Reached.the-variants.{Long};
 
 // Where the reading stands: buf[start..end] was read and not handed out; `done`: the input has ended.
 pub struct Source {
@@ -30,7 +33,9 @@ pub struct Got {
     pub source: Source,
 }
 
-pub fn is_end(reached: Reached) -> bool {
+pub fn is_end(reached: Reached) -> bool
+    ensures { λ r. ⌜ r ≡ isEnd reached ⌝ }
+{
     match reached {
         Reached::Line => false,
         Reached::Long => false,
@@ -38,7 +43,9 @@ pub fn is_end(reached: Reached) -> bool {
     }
 }
 
-fn holding(fd: i32, start: usize, end: usize) -> Source {
+fn holding(fd: i32, start: usize, end: usize) -> Source
+    ensures { λ r. ⌜ r ≡ holds fd start end ⌝ }
+{
     Source {
         fd: fd,
         start: start,
@@ -47,11 +54,15 @@ fn holding(fd: i32, start: usize, end: usize) -> Source {
     }
 }
 
-pub fn source_of(fd: i32) -> Source {
+pub fn source_of(fd: i32) -> Source
+    ensures { λ r. ⌜ r ≡ holds fd 0 0 ⌝ }
+{
     holding(fd, 0, 0)
 }
 
-fn ended(fd: i32) -> Source {
+fn ended(fd: i32) -> Source
+    ensures { λ r. ⌜ r ≡ endedAt fd ⌝ }
+{
     Source {
         fd: fd,
         start: 0,
@@ -63,6 +74,7 @@ fn ended(fd: i32) -> Source {
 // What is no line.
 fn other(reached: Reached, source: Source) -> Got
     ensures { λ r. ⌜ Inside r 0 ⌝ }
+    ensures { λ r. ⌜ r ≡ noLine reached source ⌝ }
 {
     Got {
         reached: reached,
@@ -76,6 +88,7 @@ fn other(reached: Reached, source: Source) -> Got
 // read that fails ends the input, and its cause is written to standard error.
 pub fn next(s: Source, buf: &mut [u8]) -> Got
     ensures { λ r. ⌜ Inside r (length (now (buf .exit))) ⌝ }
+    ensures { λ r. ⌜ Follows (nextOf s (now (buf .entry))) (s .fd) (now (buf .entry)) (now (buf .exit)) r ⌝ }
 {
     let start = s.start;
     let end = s.end;
@@ -101,6 +114,7 @@ fn line(buf: &[u8], from: usize, to: usize, source: Source) -> Got
     requires { ⌜ from ≤ to ⌝ }
     requires { ⌜ to ≤ length (now buf) ⌝ }
     ensures { λ r. ⌜ Inside r (length (now (buf .entry))) ⌝ }
+    ensures { λ r. ⌜ r ≡ lineAt (now (buf .entry)) from to source ⌝ }
 {
     if to == from {
         return Got {
@@ -129,6 +143,7 @@ fn line(buf: &[u8], from: usize, to: usize, source: Source) -> Got
 // The last line, buf[0..to], which no newline ends, unless nothing is left.
 fn last(fd: i32, to: usize) -> Got
     ensures { λ r. ⌜ Inside r to ⌝ }
+    ensures { λ r. ⌜ r ≡ lastLine fd to ⌝ }
 {
     if to == 0 {
         return other(Reached::End, ended(fd));
@@ -147,6 +162,7 @@ fn newline(s: &[u8], from: usize, to: usize) -> usize
     requires { ⌜ to ≤ length (now s) ⌝ }
     ensures { λ r. ⌜ from ≤ r ⌝ }
     ensures { λ r. ⌜ r ≤ to ⌝ }
+    ensures { λ r. ⌜ r ≡ newlineIn (now (s .entry)) from to ⌝ }
 {
     let mut i = from;
     while i < to {
@@ -163,6 +179,8 @@ fn to_front(buf: &mut [u8], start: usize, end: usize) -> usize
     requires { ⌜ start ≤ end ⌝ }
     requires { ⌜ end ≤ length (now buf) ⌝ }
     ensures { λ r. ⌜ r ≤ length (now (buf .exit)) ⌝ }
+    ensures { λ r. ⌜ r ≡ end - start ⌝ }
+    ensures { λ r. ⌜ now (buf .exit) ≡ toFront (now (buf .entry)) start end ⌝ }
 {
     let n = end - start;
     if start == 0 {
@@ -186,6 +204,7 @@ fn tell(fine: bool) {
 // No more comes behind buf[0..to]: the input has ended, or a read has failed. What stood before a read that failed is no line.
 fn stopped(fd: i32, to: usize, fine: bool) -> Got
     ensures { λ r. ⌜ Inside r to ⌝ }
+    ensures { λ r. ⌜ r ≡ stoppedAt fd to fine ⌝ }
 {
     tell(fine);
     if !fine {
@@ -198,6 +217,7 @@ fn stopped(fd: i32, to: usize, fine: bool) -> Got
 fn fill(fd: i32, n: usize, buf: &mut [u8]) -> Got
     requires { ⌜ n ≤ length (now buf) ⌝ }
     ensures { λ r. ⌜ Inside r (length (now (buf .exit))) ⌝ }
+    ensures { λ r. ⌜ Brought fd n (now (buf .entry)) (now (buf .exit)) r ⌝ }
 {
     let mut end = n;
     while end < buf.len() {
@@ -218,6 +238,7 @@ fn fill(fd: i32, n: usize, buf: &mut [u8]) -> Got
 // Passes over the rest of a line that is too long: at most 2^62 reads, which no input outlasts.
 fn pass(fd: i32, buf: &mut [u8]) -> Got
     ensures { λ r. ⌜ Inside r (length (now (buf .exit))) ⌝ }
+    ensures { λ r. ⌜ r ≡ noLine Long (r .source) ⌝ }
 {
     let mut left: u64 = 4611686018427387904;
     while 0 < left {

@@ -1,7 +1,8 @@
--- The buffer keeps its length, and the budget falls with each read. Assumes nothing.
+-- The buffer keeps its length, and the budget falls with each read; a line is never found. Assumes nothing.
 use lib.ListN.{length}
 use mathlib.Core.Path.{_≡_}
 use borrow.Author.Needs.{needs}
+use Rattle.text.proofs.LinesBrought.{long-own}
 use Rattle.text.proofs.lines.pass.Statement.{statement}
 use Rattle.text.proofs.lines.pass.Tie as tie
 
@@ -24,16 +25,16 @@ pass-spec =
     (λ c κs. search needs)
     (λ c κs. search needs)
     (λ c. search needs)
-    (λ c. search needs)
+    (λ c. (search needs, long-own (c .other .ensures .1)))
     (λ c κs. search needs)
     (λ c. search needs)
     (λ c κs. search needs)
     (λ c κs. search needs)
     (λ c. search needs)
-    (λ c. search needs)
+    (λ c. (search needs, long-own (c .other2 .ensures .1)))
     (λ c. search needs)
     (λ c. search needs)
     (λ c κs. search needs)
     (λ c κs. search needs)
     (λ c. search needs)
-    (λ c. search needs))
+    (λ c. (search needs, long-own (c .other3 .ensures .1))))
