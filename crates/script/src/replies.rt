@@ -5,7 +5,6 @@ use rack::event::LEAST;
 use rack::event::Report;
 use rack::event::event;
 use text::hex::print_bytes;
-use text::hex::print_uid;
 use text::print::say;
 use text::print::say_number;
 ghost use mathlib.Core.Path.{_≡_};
@@ -65,19 +64,5 @@ pub fn print_trouble(trouble: Trouble) {
         Trouble::Bad(column) => in_column(b"no hex digit", column),
         Trouble::Odd(column) => in_column(b"a hex digit alone", column),
         Trouble::Full => say(b"too many bytes"),
-    }
-}
-
-// The UIDs of the first n labels of a list, high byte first, each between two texts.
-pub fn print_uids(list: &[u8], n: usize, before: &[u8], after: &[u8]) {
-    let mut i = 0;
-    while i < n {
-        if list.len() / 8 <= i {
-            return;
-        }
-        say(before);
-        print_uid(frame::uid::uid_at(list, 8 * i));
-        say(after);
-        i += 1;
     }
 }

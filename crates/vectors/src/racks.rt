@@ -1,11 +1,12 @@
 // Events and walks as calls: their numbers, and whether a lent buffer was written to.
 use frame::number::byte_at;
+use frame::uid::uid_at;
 use inventory::walk::Walked;
 use inventory::walk::walk;
 use rack::event::Report;
 use rack::event::event;
 use request::label::Family;
-use script::replies::print_uids;
+use text::hex::print_uid;
 use text::print::say;
 use text::print::say_number;
 
@@ -84,6 +85,19 @@ fn family_of(bytes: &[u8]) -> Family {
     Family::Only(bytes[0])
 }
 
+// The UIDs of the first n labels of a list, high byte first, a space before each.
+fn print_uids(list: &[u8], n: usize) {
+    let mut i = 0;
+    while i < n {
+        if list.len() / 8 <= i {
+            return;
+        }
+        say(b" ");
+        print_uid(uid_at(list, 8 * i));
+        i += 1;
+    }
+}
+
 // The rounds and the labels of a walk, or its refusal.
 fn print_list(w: Walked, list: &[u8]) {
     if w.number != 0 {
@@ -92,7 +106,7 @@ fn print_list(w: Walked, list: &[u8]) {
     }
     say_number(b"rounds ", w.rounds as u64);
     say_number(b" labels ", w.labels as u64);
-    print_uids(list, w.labels, b" ", b"");
+    print_uids(list, w.labels);
 }
 
 pub fn walk_all(bytes: &[u8], tags: &mut [u8]) {

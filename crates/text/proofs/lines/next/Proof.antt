@@ -36,8 +36,8 @@ returns-4 c =
     let e = k .before in
     let a = e .before .before .before .args in (
       search needs,
-      next-line (a .s) (now (a .buf)) (e .before .if1 .left) (search needs) (e .if2 .left) (k .if3 .left) (n .newline .ensures .1 .1) (t .if4 .taken) (o .holding .ensures)
-          (c .line .ensures .1),
+      next-line (a .s) (now (a .buf)) (e .before .if1 .left) (search needs) (e .if2 .left) (k .if3 .left) (n .newline .ensures .1 .1) (t .if4 .taken)
+          (o .holding .ensures) (c .line .ensures .1),
     )
 
 returns-5 : tie.Need-returns-5

@@ -1,0 +1,4 @@
+-- The laws of what the program prints.
+pub mod WalkTextPuts
+pub mod WalkTextPrinted
+pub mod WalkTextTold

@@ -1,0 +1,38 @@
+-- What is printed of a rack: the walk's own statement, and room for every label that it lists. Assumes nothing.
+use mathlib.Core.Path.{_≡_, ap, ap₂, _∙_}
+use mathlib.Core.Logic.{⊎-elim}
+use mathlib.Core.List.{List}
+use Prim.Native.Nat.{ℕ, _*_, _≤_}
+use native.Mathlib.Omega.{arith}
+use lib.ListN.{length, replicate}
+use lib.Seq.{sets}
+use Rattle.frame.proofs.Bools.{same-or-not}
+use Rattle.request.specs.declared.label.Family.the-variants.{Any}
+use Rattle.inventory.specs.declared.walk.Walked.{Walked}
+use Rattle.inventory.specs.Walk.{refusalOf, walkOf}
+use Rattle.inventory.specs.Promise.{Promise}
+use Rattle.inventory.proofs.Promise.{accepted, walk-carried, walk-refused}
+use Rattle.inventory.proofs.WalkUids.{uids-few}
+use Rattle.walk.specs.WalkText.{walkText, printed}
+
+pub few-labels : {r r₁ list list₁ : List ℕ} (w : Walked) → w ≡ walkOf r Any list .report → (w .number ≡ 0 → Promise Any r r₁ list list₁ w)
+    → 8 * w .labels ≤ length list
+few-labels {r} {r₁} {list} {list₁} w e f =
+    ⊎-elim
+    (λ (z : refusalOf r (length list) ≡ 0).
+    let p = f (ap (λ (x : Walked). x .number) (e ∙ ap (λ x. x .report) (walk-carried r Any list z))) in
+    let a = accepted r (length list) z in
+    let k = uids-few Any r in
+    omega arith)
+    (λ z. let n : w .labels ≡ 0 = ap (λ (x : Walked). x .labels) (e ∙ ap (λ x. x .report) (walk-refused r Any list z)) in omega arith)
+    (same-or-not (refusalOf r (length list)) 0)
+
+-- the text of the walk's report and list is what is printed of the rack
+pub printed-all : (rack out : List ℕ) {w : Walked} {list : List ℕ} {n : ℕ} {fin : List ℕ} → w ≡ walkOf rack Any (replicate 512 0) .report
+    → list ≡ walkOf rack Any (replicate 512 0) .list
+    → (n ≡ length (walkText w list)) × ((fin ≡ sets out 0 (walkText w list)) × (n ≤ length fin))
+    → (n ≡ length (printed rack)) × ((fin ≡ sets out 0 (printed rack)) × (n ≤ length fin))
+unfolding printed
+printed-all rack out {w} {list} e f k =
+    let t : walkText w list ≡ walkText (walkOf rack Any (replicate 512 0) .report) (walkOf rack Any (replicate 512 0) .list) = ap₂ walkText e f in
+    (k .0 ∙ ap length t, (k .1 .0 ∙ ap (sets out 0) t, k .1 .1))
