@@ -17,6 +17,7 @@ use text::print::say;
 use text::print::say_number;
 ghost use mathlib.Core.Path.{_≡_};
 ghost use Rattle.script.specs.Lines.{effectOf, eventRack, lineRack, eventsBy};
+ghost use Rattle.play.specs.Turns.{turnBy};
 
 // How many lines and events there were.
 struct Tally {
@@ -88,7 +89,12 @@ fn turn(
     tags: &mut [u8],
     draws: &mut [u8],
     bytes: &mut [u8],
-) -> Tally {
+) -> Tally
+    ensures { λ r. ⌜ r ≡ turnBy reached (now (line .entry)) tally (now (tags .entry)) (now (draws .entry)) (now (bytes .entry)) .tally ⌝ }
+    ensures { λ r. ⌜ now (tags .exit) ≡ turnBy reached (now (line .entry)) tally (now (tags .entry)) (now (draws .entry)) (now (bytes .entry)) .tags ⌝ }
+    ensures { λ r. ⌜ now (draws .exit) ≡ turnBy reached (now (line .entry)) tally (now (tags .entry)) (now (draws .entry)) (now (bytes .entry)) .draws ⌝ }
+    ensures { λ r. ⌜ now (bytes .exit) ≡ turnBy reached (now (line .entry)) tally (now (tags .entry)) (now (draws .entry)) (now (bytes .entry)) .bytes ⌝ }
+{
     let n = std::num::wrapping_add_u64(tally.lines, 1);
     match reached {
         Reached::Line => {

@@ -1,0 +1,2 @@
+-- The laws of one turn.
+pub mod TurnsBy
