@@ -1,4 +1,4 @@
-/* sackbutflare.h - a rack of RFID tags to try a station on, for C.
+/* sackbutflare.h - a rack of RFID tags to try a station on, for C and C++.
  *
  * Link with target/staticlib/libstation.a, which `rt staticlib station` writes for x86-64.
  * Bytes go as a pointer and a length; a null pointer with length 0 is fine. In every result `number` is 0 for a success, and else the
@@ -11,6 +11,14 @@
 #include <stdbool.h>
 #include <stddef.h>
 #include <stdint.h>
+
+/* 100 times the edition of these declarations, and how often something was added to it: 100 is 1.0. A program written for an edition compiles and
+ * means the same with all that was added; another edition may ask a change of it. */
+#define SACKBUTFLARE_VERSION 100
+
+#ifdef __cplusplus
+extern "C" {
+#endif
 
 /* ---- the rack */
 
@@ -111,5 +119,9 @@ struct sackbutflare_told sackbutflare_read_answer(struct sackbutflare_command co
 
 /* The check sum of a frame's bytes, which follows them low byte first. */
 uint16_t sackbutflare_check_sum(const uint8_t *bytes, size_t length);
+
+#ifdef __cplusplus
+}
+#endif
 
 #endif
