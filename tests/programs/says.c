@@ -1,5 +1,5 @@
 /* says.c - what the programs play, show and walk must print, by the rules of
- * reference/ and by README's and the sources' words on the text.
+ * reference/ and by docs/FORMAT.md's and the sources' words on the text.
  *
  *     says play RACK [NEXT]     events on standard input
  *     says show RACK
