@@ -6,7 +6,7 @@ use mathlib.Core.Bool.{Bool, true, false, not, _&&_, false≢true}
 use mathlib.Core.List.{List, [], _∷_, _++_, append-nil}
 use Prim.Native.Nat.{ℕ, zero, suc, _+_, _≤_, _<_}
 use native.Mathlib.Omega.{arith}
-use borrow.Author.Tests.{eqb-true, eqb-false, eq-eqb, le-ltb}
+use borrow.Author.Tests.{eqb-true, eq-eqb, le-ltb}
 use lib.Dec.{eqb, ltb, leb}
 use lib.ListN.{length, getD, take, drop, length-append}
 use lib.Seq.{take-at}
@@ -15,8 +15,6 @@ use Rattle.frame.specs.Number.{Bytes}
 use Rattle.frame.proofs.Bools.{same-or-not}
 use Rattle.frame.proofs.Lists.{gather-none}
 use Rattle.frame.proofs.Numbers.{bytes-part}
-use Rattle.request.specs.Label as labels
-use Rattle.request.specs.Chip as chips
 use Rattle.label_body.proofs.FactsFine.{rules-fine}
 use Rattle.chip.specs.declared.step.Answer as chip
 use Rattle.chip.specs.declared.step.Answer.the-variants as a
@@ -32,21 +30,21 @@ use Rattle.reader.proofs.RequestTaken as tags
 use Rattle.reader.proofs.TagsLabelRead.{label-read, label-bytes}
 use Rattle.reader.proofs.TagsChipRead.{chip-read}
 use Rattle.reader.specs.Request as request
-use Rattle.reader.specs.Request.{encode, atFront, writtenOf, outOf, eventFor, labelTakes, chipTakes, bytesSent}
+use Rattle.reader.specs.Request.{encode, writtenOf, outOf, eventFor, labelTakes, chipTakes, bytesSent}
 use Rattle.rack.specs.declared.tag.Said.{Said}
 use Rattle.rack.specs.declared.tag.Said.the-variants as s
 use Rattle.rack.specs.File as kinds
-use Rattle.rack.specs.File.{Kind, countOf, kindAt, lengthAt, startOf, bodyAt, verdictOf, rebuilt, bodyRules}
+use Rattle.rack.specs.File.{Kind, countOf, kindAt, lengthAt, startOf, bodyAt, rebuilt, bodyRules}
 use Rattle.rack.specs.Facts.{RackFine, TagFine}
 use Rattle.rack.specs.Event.{Event, aired, nextBody, saidBy, speaks, frameOf, answerBody, next, answer, nextRack, answers}
-use Rattle.rack.specs.Event.{opened, lengthAlone, Outcome, played, least, refusalOf, eventOf}
+use Rattle.rack.specs.Event.{Outcome, played, least, refusalOf, eventOf}
 use Rattle.rack.proofs.FileVerdict.{rack-fine, fine-rack}
 use Rattle.rack.proofs.FilePlaces.{gather-ext}
 use Rattle.rack.proofs.FileRebuilt.{rebuilt-ext}
 use Rattle.rack.proofs.EventTags.{fits-none, chip-80}
 use Rattle.rack.proofs.Pass.{length-zero, tag-fine}
 use Rattle.rack.proofs.EventNext.{body-next, contents-stay}
-use Rattle.demands.specs.Demand2.{meaningOf, blockMeant, meant, writtenFrame, Asked, Taken, saidAt, ReadBack, Understood, Demand2}
+use Rattle.demands.specs.Demand2.{meaningOf, blockMeant, meant, writtenFrame, saidAt, ReadBack, Understood, Demand2}
 
 -- ---- the frame that was written
 

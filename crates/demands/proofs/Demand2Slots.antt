@@ -1,7 +1,7 @@
 -- Demand 2 in the later slots of a sixteen-slot Inventory: in slot s each label's body is `during` that slot, and what it says there is read as it means it.
 -- Assumes nothing.
-use mathlib.Core.Path.{_≡_, refl, ap, sym, subst, _∙_}
-use mathlib.Core.Bool.{Bool, true, false}
+use mathlib.Core.Path.{_≡_, refl}
+use mathlib.Core.Bool.{Bool, true}
 use mathlib.Core.List.{List, []}
 use Prim.Native.Nat.{ℕ, suc, _+_, _^_, _≤_, _<_}
 use native.Mathlib.Omega.{arith}
@@ -18,8 +18,6 @@ use Rattle.request.specs.declared.label.Family.{Family}
 use Rattle.request.specs.declared.label.Family.the-variants.{Any, Only}
 use Rattle.request.specs.declared.label.Call.the-variants.{EndOfFrame}
 use Rattle.request.specs.declared.chip.Order.the-variants.{Ignored}
-use Rattle.label.specs.declared.step.Answer as label
-use Rattle.label.specs.declared.step.Answer.the-variants as a
 use Rattle.label.specs.declared.step.Stepped.{Stepped}
 use Rattle.label.specs.Step.{act, called, endOfFrame, turn}
 use Rattle.label_body.specs.Body.{loadOf, stepped, saidLabel}
@@ -37,8 +35,8 @@ use Rattle.reader.proofs.TagsLabelRead.{slot-said}
 use Rattle.reader.proofs.TagsChipRead.{chip-read}
 use Rattle.rack.specs.File as kinds
 use Rattle.rack.specs.File.{Kind, countOf, kindAt, lengthAt, startOf, bodyAt, rebuilt, bodyRules}
-use Rattle.rack.specs.Facts.{RackFine, TagFine}
-use Rattle.rack.specs.Event.{Event, aired, played, saidBy, frameOf}
+use Rattle.rack.specs.Facts.{TagFine}
+use Rattle.rack.specs.Event.{Event, aired, saidBy, frameOf}
 use Rattle.rack.proofs.FileVerdict.{rack-fine}
 use Rattle.rack.proofs.FileRebuilt.{rebuilt-count, rebuilt-kind, rebuilt-body}
 use Rattle.rack.proofs.EventTags.{fits-none, chip-80}
@@ -48,7 +46,7 @@ use Rattle.inventory.proofs.WalkBodies.{duringBody}
 use Rattle.inventory.proofs.WalkEvents.{Fine, Lent}
 use Rattle.inventory.proofs.WalkSent.{event}
 use Rattle.inventory.proofs.WalkRounds.{bodies, sized, bodies-fine, slot-next, in-slot}
-use Rattle.demands.specs.Demand2.{meaningOf, blockMeant, saidAt, Understood, AskedSlots, Demand2Slots}
+use Rattle.demands.specs.Demand2.{meaningOf, blockMeant, saidAt, Understood, Demand2Slots}
 use Rattle.demands.proofs.Demand2.{ReadAs, no-block, understood}
 
 -- what a label says to an end of frame tells no place

@@ -1,22 +1,20 @@
 -- The marked examples (a) to (j): chips and the check sum compute, a label in its slot goes by the four bits above the mask. Assumes nothing.
 use mathlib.Core.Path.{_≡_, refl, ap, _∙_}
-use mathlib.Core.Bool.{Bool, true, false, _&&_}
+use mathlib.Core.Bool.{Bool, true, false}
 use mathlib.Core.List.{List, [], _∷_}
-use Prim.Native.Nat.{ℕ, _+_, _*_, _/_, _%_, _^_, _<_}
+use Prim.Native.Nat.{ℕ, _+_, _*_, _/_, _%_, _<_}
 use native.Mathlib.Omega.{arith}
 use borrow.Author.Tests.{lt-ltb}
 use lib.Dec.{eqb}
-use lib.ListN.{length, getD, take}
+use lib.ListN.{getD, take}
 use Rattle.frame.specs.Choose.{if_then_else_}
 use Rattle.frame.specs.Number.{num, part}
 use Rattle.frame.specs.Ending.{endsIn, endsInSlot}
 use Rattle.frame.specs.CheckSum.{crcBit, crcBits, crcByte, crcRun, crcWith, framedWith, rightWith}
 use Rattle.request.specs.Label.{heard}
 use Rattle.request.specs.Chip as chips
-use Rattle.request.specs.declared.label.Family.{Family}
 use Rattle.label.specs.Step.{withSlot, told, silent, act, called, endOfFrame, turn}
 use Rattle.label_body.specs.Body.{loadOf, stepped, saidLabel}
-use Rattle.label_body.specs.Answer.{answerFrame}
 use Rattle.label.specs.declared.step.Label.{Label}
 use Rattle.label.specs.declared.step.Stepped.{Stepped}
 use Rattle.label.specs.declared.step.Answer.the-variants.{Silent, Found}

@@ -55,7 +55,7 @@ pub record Asked (c : Command) (uid d buffer r ds out : List ℕ) : Type 0 where
   pub room : least ≤ length out
 
 -- taken as meant: the call is not refused, and each tag does what the command means, and says it
-pub record Taken (event : Event) (r ds : List ℕ) (o : Outcome) : Type 0 where
+pub record TakenByAll (event : Event) (r ds : List ℕ) (o : Outcome) : Type 0 where
   pub accepted : o .report .number ≡ 0
   pub inPlace : contents (o .rack) ≡ contents r
   pub does : (i : ℕ) → i < countOf r → bodyAt (o .rack) i ≡ nextBody (kindAt r i) event (getD ds i 0) (bodyAt r i)
@@ -77,7 +77,7 @@ pub record ReadBack (c : Command) (uid d : List ℕ) (event : Event) (r ds : Lis
       ≡ blockMeant (saidAt r event ds who) (bodyAt r who)
 
 pub record Understood (c : Command) (uid d : List ℕ) (event : Event) (r ds : List ℕ) (o : Outcome) : Type 0 where
-  pub taken : Taken event r ds o
+  pub taken : TakenByAll event r ds o
   pub heard : o .report .answered ≡ 1 → ReadBack c uid d event r ds o
 
 -- the demand: what was written is played on the rack

@@ -22,7 +22,7 @@ use Rattle.rack.specs.File.{Kind, Label, Chip}
 use Rattle.rack.specs.File.{countOf, kindAt, bodyAt, contents, verdictOf}
 use Rattle.rack.specs.Facts.{Fine, TagFine}
 use Rattle.rack.specs.Event.{Event, aired, nextBody, nextRack}
-use Rattle.rack.specs.Run.{Happening, after, ran}
+use Rattle.rack.specs.Run.{Happening, afterEvent, ran}
 use Rattle.rack.proofs.FileVerdict.{rack-fine, fine-rack, most-bytes}
 use Rattle.rack.proofs.EventTags.{Stepping, signal-sound, label-sized, chip-80}
 use Rattle.rack.proofs.EventNext.{next-count, next-kind, body-next, stepping, next-bytes, next-fine}
@@ -31,7 +31,7 @@ use Rattle.rack.proofs.Floor.{left-by, contents-left}
 -- ---- the induction
 
 -- from a rack of bytes that keeps its rules an event leaves one
-after-fine : (r : List ℕ) → Fine r → (e : Happening) → Fine (after r e)
+after-fine : (r : List ℕ) → Fine r → (e : Happening) → Fine (afterEvent r e)
 after-fine r ok e =
     let s = signal-sound (e .number) (e .frame) (e .frameBytes) in
     left-by Fine r (e .number) (e .frame) (e .draws) (e .out) ok
@@ -41,11 +41,11 @@ after-fine r ok e =
     })
 
 -- what every event keeps, every run keeps; and the rack stays well-formed and made of bytes
-pub run-keeps : (P : List ℕ → Type 0) → ((r : List ℕ) → Fine r → (e : Happening) → P r → P (after r e)) → (r : List ℕ) → Fine r
+pub run-keeps : (P : List ℕ → Type 0) → ((r : List ℕ) → Fine r → (e : Happening) → P r → P (afterEvent r e)) → (r : List ℕ) → Fine r
     → (es : List Happening) → P r → P (ran r es) × Fine (ran r es)
 unfolding ran
 run-keeps P step r ok [] p = (p, ok)
-run-keeps P step r ok (e ∷ es) p = run-keeps P step (after r e) (after-fine r ok e) es (step r ok e p)
+run-keeps P step r ok (e ∷ es) p = run-keeps P step (afterEvent r e) (after-fine r ok e) es (step r ok e p)
 
 -- ---- a locked block, as a run keeps it: where it stands, what it holds, its lock
 
@@ -119,7 +119,7 @@ module _ (r : List ℕ) (wellFormed : verdictOf r .number ≡ 0) (bytes : Bytes 
         P : List ℕ → Type 0
         P x = (countOf x ≡ countOf r) × ((kindAt x i ≡ kind) × Q (bodyAt x i))
 
-        on : (x : List ℕ) → Fine x → (e : Happening) → P x → P (after x e)
+        on : (x : List ℕ) → Fine x → (e : Happening) → P x → P (afterEvent x e)
         on x ok e p =
             let event = aired (e .number) (e .frame) in
             let ds = e .draws in

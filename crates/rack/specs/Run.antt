@@ -1,4 +1,4 @@
--- Document 01, "Events": events one after the other, each on the rack that the one before it left. Assumes nothing.
+-- Document 01, "Events": events one afterEvent the other, each on the rack that the one before it left. Assumes nothing.
 use mathlib.Core.List.{List, [], _∷_}
 use Prim.Native.Nat.{ℕ}
 use Rattle.frame.specs.Number.{Bytes}
@@ -14,9 +14,9 @@ pub record Happening : Type 0 where
   pub drawBytes : Bytes draws
 
 -- the rack that one leaves
-abbrev pub after : List ℕ → Happening → List ℕ
-after r e = eventOf r (e .number) (e .frame) (e .draws) (e .out) .rack
+abbrev pub afterEvent : List ℕ → Happening → List ℕ
+afterEvent r e = eventOf r (e .number) (e .frame) (e .draws) (e .out) .rack
 
 unfoldable pub ran : List ℕ → List Happening → List ℕ
 ran r [] = r
-ran r (e ∷ es) = ran (after r e) es
+ran r (e ∷ es) = ran (afterEvent r e) es

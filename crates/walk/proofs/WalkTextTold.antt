@@ -31,7 +31,7 @@ abbrev pub linesOf : List ℕ → List ℕ
 linesOf [] = []
 linesOf (u ∷ us) = uidText (bytesOf 8 u) ++ (10 ∷ linesOf us)
 
-pub record Told (rack text : List ℕ) : Type 0 where
+pub record RackTold (rack text : List ℕ) : Type 0 where
   -- the UIDs: each as often as the rack has it, and no other
   pub listed : List ℕ
   pub lists : (v : ℕ) → count v listed ≡ count v (uids Any rack)
@@ -58,7 +58,7 @@ pub printed-refused : (rack : List ℕ) → (refusalOf rack 512 ≡ 0 → ⊥) �
 unfolding walkText
 printed-refused rack h = of-result rack (walk-refused rack Any noList h) ∙ rw (ne-eqb (refusalOf rack 512) 0 h) refl
 
-pub printed-told : (rack : List ℕ) → Bytes rack → refusalOf rack 512 ≡ 0 → Told rack (printed rack)
+pub printed-told : (rack : List ℕ) → Bytes rack → refusalOf rack 512 ≡ 0 → RackTold rack (printed rack)
 unfolding walkText
 printed-told rack small z =
     let a = accepted rack 512 z in
