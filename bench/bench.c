@@ -1,4 +1,5 @@
 /* bench.c - times the proved library against the reference in plain C, in one run, and prints a table: nanoseconds a call and their ratio.
+ * Compiled with BEFORE it times it against another archive of the same calls, whose names begin with before_.
  * Before a row is timed both sides play it and must leave the same reply and the same bytes, else it ends with status 1.
  * Each number is the best of several tries, taken in turn. The clock is the process's own, and a try lasts equally long for both: on a busy
  * machine a short try would else slip in between two interruptions and a long one never could, in favour of the quicker call.
@@ -48,9 +49,6 @@ static double seconds(void)
 
 static size_t sum_len;
 
-static void our_sum(void) { said.count = sackbutflare_check_sum(rack, sum_len); }
-static void ref_sum(void) { said.count = ref_check_sum(rack, sum_len); }
-
 /* The reference goes bit by bit, to be read easily; this is what C for speed would do. */
 static uint16_t table[256];
 
@@ -81,12 +79,37 @@ static void give(size_t number, size_t count, size_t more)
     said.more = more;
 }
 
-static void our_event(void)
-{
-    struct sackbutflare_report r =
-        sackbutflare_event(work, rack_len, now.number, now.frame, now.frame_len, draws, now.tags, answer, sizeof answer);
-    give(r.number, r.answered, r.length);
-}
+/* The calls of an archive, its names beginning with name. */
+#define CALLS(whose, name)                                                                                                      \
+    static void whose##_sum(void) { said.count = name##_check_sum(rack, sum_len); }                                             \
+    static void whose##_event(void)                                                                                             \
+    {                                                                                                                           \
+        struct sackbutflare_report r =                                                                                          \
+            name##_event(work, rack_len, now.number, now.frame, now.frame_len, draws, now.tags, answer, sizeof answer);         \
+        give(r.number, r.answered, r.length);                                                                                   \
+    }                                                                                                                           \
+    static void whose##_walk(void)                                                                                              \
+    {                                                                                                                           \
+        struct sackbutflare_walked w = name##_walk(work, rack_len, false, 0, list, sizeof list);                                \
+        give(w.number, w.labels, w.rounds);                                                                                     \
+    }
+
+CALLS(our, sackbutflare)
+
+#ifdef BEFORE
+static const bool both_proved = true;
+static const char sides[] = "ns after | ns before";
+
+extern __typeof__(sackbutflare_check_sum) before_check_sum;
+extern __typeof__(sackbutflare_event) before_event;
+extern __typeof__(sackbutflare_walk) before_walk;
+
+CALLS(the, before)
+#else
+static const bool both_proved = false;
+static const char sides[] = "ns ours | ns C";
+
+static void the_sum(void) { said.count = ref_check_sum(rack, sum_len); }
 
 static void the_event(void)
 {
@@ -95,18 +118,13 @@ static void the_event(void)
     give(r.number, r.answered, r.length);
 }
 
-static void our_walk(void)
-{
-    struct sackbutflare_walked w = sackbutflare_walk(work, rack_len, false, 0, list, sizeof list);
-    give(w.number, w.labels, w.rounds);
-}
-
 static void the_walk(void)
 {
     struct ref_walked w;
     ref_walk(work, rack_len, 0, 0, list, sizeof list, &w);
     give(w.number, w.labels, w.rounds);
 }
+#endif
 
 /* ------------------------------------------------------------------- the racks */
 
@@ -209,7 +227,7 @@ static void hold(const char *what, int n, void (*ours)(void), void (*theirs)(voi
         play(theirs, times, &b);
         if (memcmp(&a, &b, sizeof a) != 0) {
             fflush(stdout);
-            fprintf(stderr, "bench: ours and C disagree: %s, tags %d, call %d\n", what, n, times);
+            fprintf(stderr, "bench: the two sides disagree: %s, tags %d, call %d\n", what, n, times);
             exit(1);
         }
     }
@@ -254,8 +272,8 @@ static void sums(size_t len)
     char what[80];
     sum_len = len;
     snprintf(what, sizeof what, "check sum of %zu bytes", len);
-    row(what, 0, our_sum, ref_sum);
-    if (!counting)
+    row(what, 0, our_sum, the_sum);
+    if (!counting && !both_proved)
         row("the same against C with a table", 0, our_sum, table_sum);
 }
 
@@ -289,7 +307,7 @@ int main(int argc, char **argv)
 {
     counting = argc == 2 && strcmp(argv[1], "count") == 0;
     if (!counting)
-        printf("| call | tags | ns ours | ns C | ratio |\n|---|---|---|---|---|\n");
+        printf("| call | tags | %s | ratio |\n|---|---|---|---|---|\n", sides);
     make(1, 4, 4, best);
     make_table();
     sums(5);

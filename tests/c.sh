@@ -1,6 +1,8 @@
 # Sourced by the tests in C: cc compiles for the archives that `rt staticlib` writes, which are for x86-64, and run runs what it made. cxx
 # is the compiler for C++, if there is one.
 # On another processor these are Debian's cross compiler and emulator, installed where they are missing.
+. tests/archive.sh
+
 case $(uname -m) in
     x86_64)
         cc=${CC:-gcc}
@@ -25,23 +27,7 @@ cxx_found() {
     command -v "$cxx" >/dev/null
 }
 
-flags="-std=c11 -Wall -Wextra -Werror -pedantic -O2"
-
-# One line for the toolchain and the content of every source.
-sources() {
-    { rt version; find crates crates.txt -type f -print0 | sort -z | xargs -0 sha256sum; } | sha256sum
-}
-
-# Makes the archive of the C face where there is none of these very sources. One that could not be made leaves none behind to be tested instead.
-archive() {
-    local made=target/staticlib/libstation.a of
-    of=$(sources)
-    if [ -f "$made" ] && [ "$(cat "$made.of" 2>/dev/null)" = "$of" ]; then return 0; fi
-    rm -f "$made" "$made.of"
-    rt staticlib station && echo "$of" >"$made.of"
-}
-
-# The same as a part of a test, which has sourced count.sh.
+# Makes the archive as a part of a test, which has sourced count.sh.
 archived() {
     local status
     archive >"$work/log" 2>&1
