@@ -12,13 +12,17 @@
 #include <stddef.h>
 #include <stdint.h>
 
-/* 100 times the edition of these declarations, and how often something was added to it: 100 is 1.0. A program written for an edition compiles and
- * means the same with all that was added; another edition may ask a change of it. */
-#define SACKBUTFLARE_VERSION 100
+/* 100 times the edition of these declarations, and how often something was added to it: 200 is 2.0. A program written for an edition compiles and
+ * means the same with all that was added; another edition may ask a change of it. Of a program written for 1.0 edition 2 asks the length of each UID
+ * behind its pointer, in sackbutflare_write_request and sackbutflare_read_answer. */
+#define SACKBUTFLARE_VERSION 200
 
 #ifdef __cplusplus
 extern "C" {
 #endif
+
+/* The SACKBUTFLARE_VERSION that the archive was built for. */
+uint32_t sackbutflare_version(void);
 
 /* ---- the rack */
 
@@ -72,11 +76,11 @@ struct sackbutflare_written {
     size_t length;
 };
 
-/* Writes the request of a command, with its check sum, to the front of out, which has 64 bytes or more. uid points at eight bytes, least
- * significant first, for every command; they count where the target is one UID. data is what label 21 and chip 09 write.
- * Refusals: 3 out under 64 bytes, 7 no request has these fields. */
-struct sackbutflare_written sackbutflare_write_request(struct sackbutflare_command command, const uint8_t uid[8], const uint8_t *data,
-                                                       size_t data_length, uint8_t *out, size_t out_length);
+/* Writes the request of a command, with its check sum, to the front of out, which has 64 bytes or more. uid is eight bytes, least significant
+ * first, where the target is one UID, and is not looked at where it is not. data is what label 21 and chip 09 write.
+ * Refusals: 3 out under 64 bytes, 7 no request has these fields, or not eight bytes of the one UID. */
+struct sackbutflare_written sackbutflare_write_request(struct sackbutflare_command command, const uint8_t *uid, size_t uid_length,
+                                                       const uint8_t *data, size_t data_length, uint8_t *out, size_t out_length);
 
 /* What an answer means, and what is told with it. */
 enum {
@@ -110,9 +114,9 @@ struct sackbutflare_told {
     uint64_t uid;
 };
 
-/* Reads the answer to a command that was sent for uid, as above, with so many bytes of data. Refusals: 7 no request has these fields, 8 under 3
- * bytes or a wrong check sum, 9 not an answer to this command. */
-struct sackbutflare_told sackbutflare_read_answer(struct sackbutflare_command command, const uint8_t uid[8], size_t data_length,
+/* Reads the answer to a command that was sent for uid, as above, with so many bytes of data. Refusals: 7 as above, 8 under 3 bytes or a wrong
+ * check sum, 9 not an answer to this command. */
+struct sackbutflare_told sackbutflare_read_answer(struct sackbutflare_command command, const uint8_t *uid, size_t uid_length, size_t data_length,
                                                   const uint8_t *frame, size_t frame_length);
 
 /* ---- frames */

@@ -78,7 +78,7 @@ static struct sackbutflare_told ask(const char *what, struct sackbutflare_comman
     size_t length = strlen(data);
     struct sackbutflare_told nothing = { 0 };
     put(uid, number, 8);
-    struct sackbutflare_written w = sackbutflare_write_request(c, uid, (const uint8_t *)data, length, frame, sizeof frame);
+    struct sackbutflare_written w = sackbutflare_write_request(c, uid, sizeof uid, (const uint8_t *)data, length, frame, sizeof frame);
     printf("%s\n", what);
     bytes("  sent", frame, w.length);
     struct sackbutflare_report r = event(LABEL_FRAME, frame, w.length);
@@ -86,7 +86,7 @@ static struct sackbutflare_told ask(const char *what, struct sackbutflare_comman
     if (r.answered != 1)
         return nothing;
     bytes("  heard", answer, r.length);
-    return sackbutflare_read_answer(c, uid, length, answer, r.length);
+    return sackbutflare_read_answer(c, uid, sizeof uid, length, answer, r.length);
 }
 
 static struct sackbutflare_command to_label(uint16_t code, uint8_t target)

@@ -16,6 +16,8 @@ EVERYONE, SELECTED, ONE_UID = range(3)
 ERROR, DONE, FOUND, BLOCK, LOCKED_BLOCK, SYSTEM, CHIP_ID, WORD, CHIP_UID = range(1, 10)
 # The most bytes of an answer and of a request.
 ROOM = 64
+# The edition of the header that these calls are of.
+EDITION = 2
 
 
 class Report(ctypes.Structure):
@@ -91,7 +93,8 @@ def _lent(array):
 
 
 def _uid(number):
-    return number.to_bytes(8, "little")
+    """The bytes of a UID; none of it, where there is none."""
+    return b"" if number is None else number.to_bytes(8, "little")
 
 
 class Station:
@@ -109,9 +112,12 @@ class Station:
 
         self._event = call("event", Report, lent, size, c_uint8, kept, size, kept, size, lent, size)
         self._walk = call("walk", Walked, lent, size, c_bool, c_uint8, lent, size)
-        self._write_request = call("write_request", Written, Command, kept, kept, size, lent, size)
-        self._read_answer = call("read_answer", Told, Command, kept, size, kept, size)
+        self._write_request = call("write_request", Written, Command, kept, size, kept, size, lent, size)
+        self._read_answer = call("read_answer", Told, Command, kept, size, size, kept, size)
         self._check_sum = call("check_sum", c_uint16, kept, size)
+        self._version = call("version", c_uint32)
+        if self._version() // 100 != EDITION:
+            raise ImportError("%s is of edition %d, and this module of %d" % (path, self._version() // 100, EDITION))
 
     def event(self, rack, number, frame=b"", draws=None):
         """Plays an event: how many tags answered, and the answer of one that was alone. Without draws, every draw is 0."""
@@ -130,15 +136,16 @@ class Station:
         uids = [int.from_bytes(listed[8 * i : 8 * i + 8], "little") for i in range(walked.labels)]
         return uids, walked.rounds
 
-    def write_request(self, command, uid=0, data=b""):
-        """The frame of a command, with its check sum."""
-        out = bytearray(ROOM)
-        written = _accepted(self._write_request(command, _uid(uid), bytes(data), len(data), _lent(out), len(out)))
+    def write_request(self, command, uid=None, data=b""):
+        """The frame of a command, with its check sum; the UID counts where the target is one UID."""
+        out, uid = bytearray(ROOM), _uid(uid)
+        written = _accepted(self._write_request(command, uid, len(uid), bytes(data), len(data), _lent(out), len(out)))
         return bytes(out[: written.length])
 
-    def read_answer(self, command, frame, uid=0, data_length=0):
+    def read_answer(self, command, frame, uid=None, data_length=0):
         """What a frame means as the answer to a command that was sent for this UID and with so many bytes of data."""
-        return _accepted(self._read_answer(command, _uid(uid), data_length, bytes(frame), len(frame)))
+        uid = _uid(uid)
+        return _accepted(self._read_answer(command, uid, len(uid), data_length, bytes(frame), len(frame)))
 
     def check_sum(self, data):
         return self._check_sum(bytes(data), len(data))

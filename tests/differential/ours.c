@@ -62,10 +62,17 @@ static struct sackbutflare_command command_of(const struct ref_command *c)
     return own;
 }
 
+/* A UID goes along where the command is for one. */
+static size_t uid_length(const struct ref_command *c)
+{
+    return c->target == SACKBUTFLARE_ONE_UID ? REF_UID : 0;
+}
+
 int other_write_request(const struct ref_command *command, const uint8_t *uid, const uint8_t *data,
                         size_t data_len, uint8_t *out, size_t out_len, struct ref_written *result)
 {
-    struct sackbutflare_written w = sackbutflare_write_request(command_of(command), uid, data, data_len, out, out_len);
+    struct sackbutflare_written w =
+        sackbutflare_write_request(command_of(command), uid, uid_length(command), data, data_len, out, out_len);
     result->number = w.number;
     result->length = (uint32_t)w.length;
     return w.number;
@@ -84,7 +91,8 @@ static uint8_t meaning_of(uint8_t meaning)
 int other_read_answer(const struct ref_command *command, const uint8_t *uid, size_t data_len,
                       const uint8_t *frame, size_t frame_len, struct ref_reading *out)
 {
-    struct sackbutflare_told t = sackbutflare_read_answer(command_of(command), uid, data_len, frame, frame_len);
+    struct sackbutflare_told t =
+        sackbutflare_read_answer(command_of(command), uid, uid_length(command), data_len, frame, frame_len);
     /* The reference also says where a chip's block stands, always the first four
      * bytes. The face must leave 0 there, which would else go unseen. */
     int word = t.meaning == SACKBUTFLARE_WORD && t.place == 0 && t.length == 0;

@@ -22,6 +22,7 @@ def c_program():
             c_line("%s.%s %%zu %%zu" % (name, field), "offsetof(%s, %s)" % (c_name, field), "sizeof((%s *)0)->%s" % (c_name, field))
     for name in NUMBERS:
         c_line("%s %%zu" % name, "SACKBUTFLARE_" + name)
+    c_line("EDITION %zu", "SACKBUTFLARE_VERSION / 100")
     print("}")
 
 
@@ -33,6 +34,7 @@ def python_side():
             print("%s.%s %d %d" % (name, field, place.offset, place.size))
     for name in NUMBERS:
         print(name, getattr(sackbutflare, name))
+    print("EDITION", sackbutflare.EDITION)
 
 
 c_program() if len(sys.argv) > 1 else python_side()

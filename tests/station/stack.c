@@ -57,13 +57,13 @@ static void walk(void)
 static void write_request(void)
 {
     FROM_HERE();
-    written = sackbutflare_write_request(command, uid, data, data_length, request, sizeof request);
+    written = sackbutflare_write_request(command, uid, sizeof uid, data, data_length, request, sizeof request);
 }
 
 static void read_answer(void)
 {
     FROM_HERE();
-    told = sackbutflare_read_answer(command, uid, data_length, answer, report.length);
+    told = sackbutflare_read_answer(command, uid, sizeof uid, data_length, answer, report.length);
 }
 
 static void check_sum(void)

@@ -14,7 +14,7 @@ use Rattle.face.specs.Told.{toldAs, toldOf}
 pub tell-arm : (r : Told) (meaning x : Meaning) (uid : ℕ) → meaning ≡ x → r ≡ toldAs x uid → r ≡ toldAs meaning uid
 tell-arm r meaning x uid e h = rw e h
 
-pub told-of : (r : Told) (x : Reading) (c k : Command) (uid : List ℕ) (n u : ℕ) (s : List ℕ) → c ≡ k → x ≡ readingOf c uid n s → u ≡ num (x .uid)
-    → r ≡ toldAs (x .meaning) u → r ≡ toldOf (readingOf k uid n s)
+pub told-of : (r : Told) (x : Reading) (c k : Command) (uid v : List ℕ) (n u : ℕ) (s : List ℕ) → c ≡ k → uid ≡ v → x ≡ readingOf c uid n s
+    → u ≡ num (x .uid) → r ≡ toldAs (x .meaning) u → r ≡ toldOf (readingOf k v n s)
 unfolding toldOf
-told-of r x c k uid n u s e h w g = rw (← e, ← h, ← w) g
+told-of r x c k uid v n u s e i h w g = rw (← e, ← i, ← h, ← w) g

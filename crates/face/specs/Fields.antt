@@ -1,8 +1,10 @@
 -- What the numbers of the C face mean: which command they name. A command of other numbers is `Other`, which no request has.
 -- Assumes nothing.
 use mathlib.Core.Bool.{Bool, true, false}
+use mathlib.Core.List.{List}
 use Prim.Native.Nat.{ℕ}
 use lib.Dec.{eqb, ltb}
+use lib.ListN.{length, replicate}
 use Rattle.frame.specs.Choose.{if_then_else_}
 use Rattle.request.specs.declared.label.Family.{Family}
 use Rattle.request.specs.declared.label.Family.the-variants.{Any, Only}
@@ -57,3 +59,11 @@ commandOf f =
     else if eqb (f .kind) 1 then labelCommand f (targetOf (f .target))
     else if eqb (f .kind) 2 then chipCommand (f .code) (targetOf (f .target)) (f .option) (f .byte)
     else Other (f .kind) 0
+
+-- a UID is eight bytes; any other number of them is none, and stands as zeros
+unfoldable pub uidOf : List ℕ → List ℕ
+uidOf bytes = if eqb (length bytes) 8 then bytes else replicate 8 0
+
+-- with n bytes of a UID: to one UID nothing is sent without eight, and no other command looks at them
+unfoldable pub commandFor : Fields → ℕ → Command
+commandFor f n = if eqb (f .target) 2 then (if eqb n 8 then commandOf f else Other (f .kind) 0) else commandOf f

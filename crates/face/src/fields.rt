@@ -1,4 +1,5 @@
-// A command put together from the numbers that C hands over.
+// A command put together from the numbers that C hands over, and its UID.
+use frame::uid::uid_at;
 use reader::command::ChipTask;
 use reader::command::Command;
 use request::label::Family;
@@ -7,7 +8,7 @@ use request::table::Found;
 use request::table::find;
 ghost use mathlib.Core.Path.{_≡_};
 ghost use Rattle.request.specs.Table.{table, lookup};
-ghost use Rattle.face.specs.Fields.{familyOf, targetOf, taskCommand, chipCommand, labelCommand, commandOf};
+ghost use Rattle.face.specs.Fields.{familyOf, targetOf, taskCommand, chipCommand, labelCommand, commandOf, uidOf, commandFor};
 
 // A command's numbers; which of them count depends on the command. given says whether there is an AFI;
 // byte is a block, an address, a slot, a Chip_ID or a value to write.
@@ -101,6 +102,29 @@ pub fn command_of(f: Fields) -> Command
     }
     if f.kind == 2 {
         return chip_command(f.code, to, f.option, f.byte);
+    }
+    Command::Other(f.kind, 0)
+}
+
+// A UID of eight bytes; zeros where they are not eight.
+pub fn uid_of(bytes: &[u8]) -> [u8; 8]
+    ensures { λ r. ⌜ r ≡ uidOf (now (bytes .entry)) ⌝ }
+{
+    if bytes.len() == 8 {
+        return uid_at(bytes, 0);
+    }
+    [0; 8]
+}
+
+// The command of these numbers with n bytes of a UID.
+pub fn command_for(f: Fields, n: usize) -> Command
+    ensures { λ r. ⌜ r ≡ commandFor f n ⌝ }
+{
+    if f.target != 2 {
+        return command_of(f);
+    }
+    if n == 8 {
+        return command_of(f);
     }
     Command::Other(f.kind, 0)
 }

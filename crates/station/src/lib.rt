@@ -1,7 +1,8 @@
 // The calls for a station's test bench, in C: numbers, bytes with their length, plain structs. include/sackbutflare.h declares them.
 use face::fields::Fields;
-use face::fields::command_of;
+use face::fields::command_for;
 use face::fields::family_of;
+use face::fields::uid_of;
 use face::told::Told;
 use face::told::tell;
 use frame::uid::uid_number;
@@ -9,13 +10,15 @@ use inventory::walk::Walked;
 use rack::event::Report;
 use reader::writer::Written;
 ghost use mathlib.Core.Path.{_≡_};
+ghost use lib.ListN.{length};
 ghost use Rattle.frame.specs.CheckSum.{crcOf};
 ghost use Rattle.rack.specs.Event.{Replied};
 ghost use Rattle.inventory.specs.Promise.{Reply};
 ghost use Rattle.reader.specs.Request.{Wrote};
 ghost use Rattle.reader.specs.Answer.{readingOf};
-ghost use Rattle.face.specs.Fields.{familyOf, commandOf};
+ghost use Rattle.face.specs.Fields.{familyOf, uidOf, commandFor};
 ghost use Rattle.face.specs.Told.{toldOf};
+ghost use Rattle.station.specs.Version.{version};
 
 // Plays an event on a rack.
 #[no_mangle]
@@ -46,30 +49,32 @@ pub extern "C" fn sackbutflare_walk(
     inventory::walk::walk(rack, family, list)
 }
 
-// Writes the request of a command to the front of out. The eight bytes of uid are always read; they count where the command is for one UID.
+// Writes the request of a command to the front of out. uid has eight bytes where the command is for one UID, and is not looked at for any other.
 #[no_mangle]
 pub extern "C" fn sackbutflare_write_request(
     f: Fields,
-    uid: &[u8; 8],
+    uid: &[u8],
     data: &[u8],
     out: &mut [u8],
 ) -> Written
-    ensures { λ r. ⌜ Wrote (commandOf f) (now (uid .entry)) (now («data» .entry)) (now (out .entry)) r (now (out .exit)) ⌝ }
+    ensures { λ r. ⌜ Wrote (commandFor f (length (now (uid .entry)))) (uidOf (now (uid .entry))) (now («data» .entry)) (now (out .entry)) r (now (out .exit)) ⌝ }
 {
-    let c = command_of(f);
-    reader::writer::write_request(c, *uid, data, out)
+    let c = command_for(f, uid.len());
+    let u = uid_of(uid);
+    reader::writer::write_request(c, u, data, out)
 }
 
 // Reads the answer to a command that was sent with n bytes of data.
 #[no_mangle]
-pub extern "C" fn sackbutflare_read_answer(f: Fields, uid: &[u8; 8], n: usize, frame: &[u8]) -> Told
-    ensures { λ r. ⌜ r ≡ toldOf (readingOf (commandOf f) (now (uid .entry)) n (now (frame .entry))) ⌝ }
+pub extern "C" fn sackbutflare_read_answer(f: Fields, uid: &[u8], n: usize, frame: &[u8]) -> Told
+    ensures { λ r. ⌜ r ≡ toldOf (readingOf (commandFor f (length (now (uid .entry)))) (uidOf (now (uid .entry))) n (now (frame .entry))) ⌝ }
 {
-    let c = command_of(f);
-    let r = reader::answer::read_answer(c, *uid, n, frame);
-    let u = r.uid;
+    let c = command_for(f, uid.len());
+    let u = uid_of(uid);
+    let r = reader::answer::read_answer(c, u, n, frame);
+    let v = r.uid;
     let meaning = r.meaning;
-    tell(meaning, uid_number(u))
+    tell(meaning, uid_number(v))
 }
 
 // The check sum of a frame's bytes, which follows them low byte first.
@@ -78,4 +83,12 @@ pub extern "C" fn sackbutflare_check_sum(bytes: &[u8]) -> u16
     ensures { λ r. ⌜ r ≡ crcOf (now (bytes .entry)) ⌝ }
 {
     frame::check_sum::sum_of(bytes)
+}
+
+// The edition of these calls that the archive was built for.
+#[no_mangle]
+pub extern "C" fn sackbutflare_version() -> u32
+    ensures { λ r. ⌜ r ≡ version ⌝ }
+{
+    200
 }

@@ -1,4 +1,4 @@
--- What the answer reader promises of the command that the numbers name, as numbers.
+-- What the answer reader promises of the command and UID that were handed over, as numbers.
 -- Assumes nothing.
 use Rattle.face.proofs.ToldWays.{told-of}
 use borrow.Author.Needs.{needs}
@@ -9,6 +9,7 @@ pub sackbutflare-read-answer-spec : {M : Type 1} → statement M
 sackbutflare-read-answer-spec =
     tie.close
     (tie.spec
+    (λ c κs. search needs)
     (λ c κs. search needs)
     (λ c κs. search needs)
     (λ c κs. search needs)
