@@ -1,14 +1,17 @@
--- A digit read back is its number, no digit is a blank, and a digit's value is below 16. Assumes nothing.
+-- A digit read back is its number, no digit is a gap or an opening's letter, and a digit's value is below 16. Assumes nothing.
 use Prim.Native.Nat.{ℕ, _+_, _-_, _<_, _≤_}
-use mathlib.Core.Path.{_≡_}
+use mathlib.Core.Path.{_≡_, refl}
 use mathlib.Core.Bool.{false}
+use mathlib.Core.List.{List, _∷_}
 use mathlib.Core.Logic.{⊎-elim}
 use native.Mathlib.Omega.{arith}
-use borrow.Author.Tests.{lt-ltb, le-ltb, ltb-true, ne-eqb}
+use borrow.Author.Tests.{lt-ltb, le-ltb, ltb-true, ltb-false, ne-eqb}
 use lib.Dec.{eqb, ltb}
-use Rattle.frame.proofs.Bools.{below-or-not, off-or, if-either, if-both}
-use Rattle.text.specs.Hex.{digitOf, valueOf}
-use Rattle.text.specs.Words.{isBlank}
+use Rattle.frame.proofs.Bools.{below-or-not, off-and, off-or, if-either, if-both}
+use Rattle.print.specs.Hex.{digitOf}
+use Rattle.text.specs.Hex.{valueOf}
+use Rattle.text.specs.Words.{isBlank, lowered}
+use Rattle.text.specs.Runs.{isGap, opening}
 use Rattle.text.specs.declared.hex.Nibble.{Nibble}
 use Rattle.text.specs.declared.hex.Nibble.the-variants.{Digit, Other}
 
@@ -29,15 +32,43 @@ letter n h g =
 pub value-digit : (n : ℕ) → n < 16 → valueOf (digitOf n) ≡ Digit n
 value-digit n h = ⊎-elim (decimal n) (letter n h) (below-or-not n 10)
 
-digit-high : (n : ℕ) → 48 ≤ digitOf n
-unfolding digitOf
-digit-high n = if-both (λ (c : ℕ). 48 ≤ c) (ltb n 10) (omega arith) (if-both (λ (c : ℕ). 48 ≤ c) (ltb n 16) (omega arith) (omega arith))
+-- where digits stand among the bytes
+record Among (c : ℕ) : Type 0 where
+  high : 48 ≤ c
+  low : c < 71
+  other : c ≡ 58 → ⊥
 
-pub digit-solid : (n : ℕ) → isBlank (digitOf n) ≡ false
-unfolding isBlank
+digit-among : (n : ℕ) → Among (digitOf n)
+unfolding digitOf
+digit-among n =
+    if-either Among (ltb n 10) _ _
+    (λ t. let h = ltb-true n 10 t in record { high = omega arith; low = omega arith; other = λ e. omega arith })
+    (λ t.
+    let g = ltb-false n 10 t in
+    if-either Among (ltb n 16) _ _
+    (λ u. let h = ltb-true n 16 u in record { high = omega arith; low = omega arith; other = λ e. omega arith })
+    (λ u. record { high = omega arith; low = omega arith; other = λ e. omega arith }))
+
+pub digit-solid : (n : ℕ) → isGap (digitOf n) ≡ false
+unfolding isGap isBlank
 digit-solid n =
-    let h = digit-high n in
-    off-or (eqb (digitOf n) 32) (eqb (digitOf n) 9) (ne-eqb (digitOf n) 32 (λ e. omega arith)) (ne-eqb (digitOf n) 9 (λ e. omega arith))
+    let a = digit-among n in
+    let h = a .high in
+    let c = digitOf n in
+    let not : (k : ℕ) → (c ≡ k → ⊥) → eqb c k ≡ false = ne-eqb c in
+    off-or _ _ (off-or (eqb c 32) (eqb c 9) (not 32 (λ e. omega arith)) (not 9 (λ e. omega arith)))
+    (off-or (eqb c 58) (eqb c 45) (not 58 (a .other)) (not 45 (λ e. omega arith)))
+
+no-letter : (c : ℕ) → c < 71 → lowered c ≡ 120 → ⊥
+unfolding lowered
+no-letter c h =
+    let Not : ℕ → Type 0 = λ x. x ≡ 120 → ⊥ in
+    if-both Not (ltb c 65) (λ e. omega arith) (if-both Not (ltb c 91) (λ e. omega arith) (λ e. omega arith))
+
+pub digit-opens-none : (c n : ℕ) (t : List ℕ) → opening (c ∷ digitOf n ∷ t) ≡ false
+unfolding opening
+digit-opens-none c n t =
+    off-and (eqb c 48) _ (λ q. rw (ne-eqb (lowered (digitOf n)) 120 (no-letter (digitOf n) (digit-among n .low))) refl)
 
 -- ---- the values
 

@@ -11,7 +11,7 @@ use lib.ListN.{length, take, drop, length-drop, take-append-drop}
 use lib.Seq.{length-take-le, take-take, drop-append-le, drop-length}
 use Rattle.text.proofs.WordsLead.{lead-append}
 use Rattle.text.specs.Words.{lead}
-use Rattle.text.specs.Lines.{holds, noLine, inLine, newlineIn, lineAt, stoppedAt, Brought, Whole, Last}
+use Rattle.text.specs.Lines.{holds, endedAt, noLine, inLine, newlineIn, lineAt, stoppedAt, Passed, Ended, Behind, Brought, Whole, Last, TooLong}
 use Rattle.text.specs.declared.lines.Source.{Source}
 use Rattle.text.specs.declared.lines.Reached.the-variants.{Long}
 use Rattle.text.specs.declared.lines.Got.{Got}
@@ -40,10 +40,6 @@ unfolding newlineIn
 newline-empty s n h =
     let l : length (take n s) ≡ n = length-take-le n s h in
     ap (λ (u : List ℕ). n + lead inLine u) (ap (λ (k : ℕ). drop k (take n s)) (sym l) ∙ drop-length (take n s)) ∙ add-zero n
-
--- what is no line is told by its source alone
-pub long-own : {g : Got} {x : Source} → g ≡ noLine Long x → g ≡ noLine Long (g .source)
-long-own e = e ∙ ap (noLine Long) (sym (ap (λ (y : Got). y .source) e))
 
 -- ---- `end` bytes are in the buffer
 
@@ -99,3 +95,16 @@ module _ {n end : ℕ} {old buf : List ℕ} (r : Reading n old buf end) {at to :
 pub brought-last : {n end : ℕ} {old buf : List ℕ} {fd z : ℤ} {g : Got} (fine : Bool) → Reading n old buf end → z ≡ fd → g ≡ stoppedAt z end fine
     → Brought fd n old buf g
 brought-last {end = end} fine r q e = Last end fine (r .within) (r .kept) (r .none) (e ∙ ap (λ (y : ℤ). stoppedAt y end fine) q)
+
+-- ---- the rest of a line that was too long, as `pass` goes over it: z is the descriptor that callees were handed
+
+module _ {fd z : ℤ} (q : z ≡ fd) {new : List ℕ} {x : Source} {g : Got} (f : g ≡ noLine Long x) where
+  pub pass-ended : x ≡ endedAt z → Passed fd new g
+  pass-ended e = Ended (f ∙ ap (noLine Long) (e ∙ ap endedAt q))
+
+  pub pass-behind : {at n : ℕ} → n ≤ length new → at ≡ newlineIn new 0 n → at < n → x ≡ holds z (at + 1) n → Passed fd new g
+  pass-behind {at} {n} h e l k =
+      Behind n h (omega arith) (f ∙ ap (noLine Long) (k ∙ ap (λ (y : ℤ). holds y (at + 1) n) q ∙ ap (λ (i : ℕ). holds fd (i + 1) n) e))
+
+pub brought-long : {fd z : ℤ} {n : ℕ} {old new : List ℕ} {g : Got} → z ≡ fd → Passed z new g → Brought fd n old new g
+brought-long q p = TooLong (rw q at p)

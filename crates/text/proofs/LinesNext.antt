@@ -1,12 +1,14 @@
--- The ways out of `next`: what its tests told, and what its callees answered. Assumes nothing.
-use mathlib.Core.Path.{_≡_, refl, ap, _∙_}
+-- The ways out of `next` and `at_hand`: what their tests told, and what their callees answered. Assumes nothing.
+use mathlib.Core.Path.{_≡_, refl, ap, sym, _∙_}
 use mathlib.Core.Bool.{true, false}
 use mathlib.Core.List.{List}
 use Prim.Native.Nat.{ℕ, _+_, _-_, _≤_, _<_}
 use borrow.Author.Tests.{lt-ltb, le-ltb}
+use lib.Dec.{ltb}
 use lib.IntN.{ℤ}
 use lib.ListN.{length}
-use Rattle.text.specs.Lines.{holds, endedAt, noLine, newlineIn, lineAt, toFront, Found, nextOf, Brought, Follows}
+use Rattle.frame.proofs.Bools.{if-either}
+use Rattle.text.specs.Lines.{holds, endedAt, noLine, newlineIn, lineAt, toFront, Next, Found, nextOf, isFound, Brought, Follows}
 use Rattle.text.specs.declared.lines.Source.{Source}
 use Rattle.text.specs.declared.lines.Reached.the-variants.{End}
 use Rattle.text.specs.declared.lines.Got.{Got}
@@ -47,3 +49,27 @@ module _ (s : Source) (buf : List ℕ) where
         unfolding nextOf
         next-more o e f b =
             rw (h, le-ltb (length buf) (s .end) l, le-ltb (s .end) (s .start) k, ← w, le-ltb at (s .end) o, ← f, ← e, ← q) b
+
+-- ---- whether a read is needed
+
+module _ (s : Source) (buf : List ℕ) where
+  pub hand-done : s .done ≡ true → true ≡ isFound (nextOf s buf)
+  unfolding nextOf
+  hand-done h = sym (rw h refl)
+
+  module _ (h : s .done ≡ false) where
+    pub hand-short : length buf < s .end → true ≡ isFound (nextOf s buf)
+    unfolding nextOf
+    hand-short l = sym (rw (h, lt-ltb (length buf) (s .end) l) refl)
+
+    module _ (l : s .end ≤ length buf) where
+      pub hand-crossed : s .end < s .start → true ≡ isFound (nextOf s buf)
+      unfolding nextOf
+      hand-crossed k = sym (rw (h, le-ltb (length buf) (s .end) l, lt-ltb (s .end) (s .start) k) refl)
+
+      pub hand-told : s .start ≤ s .end → {at : ℕ} → at ≡ newlineIn buf (s .start) (s .end) → ltb at (s .end) ≡ isFound (nextOf s buf)
+      unfolding nextOf
+      hand-told k {at} w =
+          rw
+          (h, le-ltb (length buf) (s .end) l, le-ltb (s .end) (s .start) k, ← w)
+          (if-either (λ (x : Next). ltb at (s .end) ≡ isFound x) (ltb at (s .end)) _ _ (λ q. q) (λ q. q))

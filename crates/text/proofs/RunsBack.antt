@@ -11,11 +11,11 @@ use lib.ListN.{length, length-reverse}
 use Rattle.frame.specs.Number.{Bytes}
 use Rattle.frame.proofs.Numbers.{bytes-append}
 use Rattle.frame.proofs.Stores.{bytes-cons}
-use Rattle.text.proofs.HexDigits.{value-digit, digit-solid}
-use Rattle.text.proofs.RunsPlaces.{read-blank, read-piece}
-use Rattle.text.specs.Hex.{digitOf, hexText, pairsText, uidText}
+use Rattle.text.proofs.HexDigits.{value-digit, digit-solid, digit-opens-none}
+use Rattle.text.proofs.RunsPlaces.{read-gap, read-piece}
+use Rattle.print.specs.Hex.{digitOf, hexText, pairsText, uidText}
 use Rattle.text.specs.Words.{isBlank}
-use Rattle.text.specs.Runs.{secondDigit, firstDigit, pieceOf, stop, onward, readHex, hexOf}
+use Rattle.text.specs.Runs.{isGap, secondDigit, firstDigit, pieceOf, stop, onward, readHex, hexOf}
 use Rattle.text.specs.declared.hex.HexRun.the-variants.{Good}
 use Rattle.text.specs.declared.hex.Piece.{Piece}
 use Rattle.text.specs.declared.hex.Piece.the-variants.{Byte}
@@ -25,31 +25,32 @@ module _ (b : ℕ) (h : b < 256) (more : List ℕ) where
   abbrev digits : List ℕ
   digits = digitOf (b / 16) ∷ digitOf (b % 16) ∷ more
 
-  piece-text : (room n at : ℕ) (gap : Bool) → n < room → pieceOf room n at gap digits ≡ Byte b
+  piece-text : (room n at : ℕ) (blank : Bool) → n < room → pieceOf room n at blank digits ≡ Byte b
   unfolding pieceOf
-  piece-text room n at gap l =
+  piece-text room n at blank l =
       let x : b / 16 < 16 = omega arith in
       let y : b % 16 < 16 = omega arith in
       let z : b / 16 * 16 + b % 16 ≡ b = omega arith in
       let k : ltb (length digits) 2 ≡ false = le-ltb (suc (suc (length more))) 2 (omega arith) in
-      ap (firstDigit room n at gap digits) (value-digit (b / 16) x)
+      ap (firstDigit room n at blank digits) (value-digit (b / 16) x)
       ∙ rw (k, digit-solid (b % 16)) (ap (secondDigit room n at (b / 16)) (value-digit (b % 16) y) ∙ rw (lt-leb room n l) (ap Byte z))
 
   -- they are one piece, behind a blank too
-  read-pair : (room n at : ℕ) (gap : Bool) → n < room → readHex room n at gap digits ≡ onward (Byte b) (readHex room (suc n) (at + 2) false more)
-  read-pair room n at gap l =
-      read-piece room n at gap (digitOf (b / 16)) (digitOf (b % 16) ∷ more) (digit-solid (b / 16))
-      ∙ ap (λ (p : Piece). onward p (readHex room (suc n) (at + 2) false more)) (piece-text room n at gap l)
+  read-pair : (room n at : ℕ) (blank : Bool) → n < room → readHex room n at blank digits ≡ onward (Byte b) (readHex room (suc n) (at + 2) false more)
+  read-pair room n at blank l =
+      read-piece room n at blank (digitOf (b / 16)) (digit-solid (b / 16)) (digitOf (b % 16) ∷ more)
+      (digit-opens-none (digitOf (b / 16)) (b % 16) more)
+      ∙ ap (λ (p : Piece). onward p (readHex room (suc n) (at + 2) false more)) (piece-text room n at blank l)
 
-  read-byte : (room n at : ℕ) (gap : Bool) → n < room
-      → readHex room n at gap (32 ∷ digits) ≡ onward (Byte b) (readHex room (suc n) (suc at + 2) false more)
-  unfolding isBlank
-  read-byte room n at gap l = read-blank room n at gap 32 digits refl ∙ read-pair room n (suc at) true l
+  read-byte : (room n at : ℕ) (blank : Bool) → n < room
+      → readHex room n at blank (32 ∷ digits) ≡ onward (Byte b) (readHex room (suc n) (suc at + 2) false more)
+  unfolding isGap isBlank
+  read-byte room n at blank l = read-gap room n at blank 32 digits refl ∙ read-pair room n (suc at) true l
 
 -- all of them, n bytes before them: a space before each, or nothing between them
 module _ (room : ℕ) where
   abbrev Back : (List ℕ → List ℕ) → List ℕ → Type 0
-  Back text bs = (n at : ℕ) (gap : Bool) → n + length bs ≤ room → readHex room n at gap (text bs) ≡ record { bytes = bs; run = Good (n + length bs) }
+  Back text bs = (n at : ℕ) (blank : Bool) → n + length bs ≤ room → readHex room n at blank (text bs) ≡ record { bytes = bs; run = Good (n + length bs) }
 
   none-back : (n : ℕ) → stop (Good n) ≡ record { bytes = []; run = Good (n + 0) }
   none-back n = ap (λ (k : ℕ). stop (Good k)) (sym (add-zero n))
@@ -61,15 +62,15 @@ module _ (room : ℕ) where
       ap (onward (Byte b)) e ∙ ap (λ (k : ℕ). record { bytes = b ∷ bs; run = Good k }) k
 
   read-text : (bs : List ℕ) → Bytes bs → Back hexText bs
-  read-text [] f n at gap h = none-back n
-  read-text (b ∷ bs) f n at gap h =
-      read-byte b (f 0) (hexText bs) room n at gap (omega arith)
+  read-text [] f n at blank h = none-back n
+  read-text (b ∷ bs) f n at blank h =
+      read-byte b (f 0) (hexText bs) room n at blank (omega arith)
       ∙ more-back b n (suc at + 2) bs (hexText bs) (read-text bs (λ i. f (suc i)) (suc n) (suc at + 2) false (omega arith))
 
   read-pairs : (bs : List ℕ) → Bytes bs → Back pairsText bs
-  read-pairs [] f n at gap h = none-back n
-  read-pairs (b ∷ bs) f n at gap h =
-      read-pair b (f 0) (pairsText bs) room n at gap (omega arith)
+  read-pairs [] f n at blank h = none-back n
+  read-pairs (b ∷ bs) f n at blank h =
+      read-pair b (f 0) (pairsText bs) room n at blank (omega arith)
       ∙ more-back b n (at + 2) bs (pairsText bs) (read-pairs bs (λ i. f (suc i)) (suc n) (at + 2) false (omega arith))
 
   back : (text : List ℕ → List ℕ) (bs : List ℕ) → Back text bs → length bs ≤ room → hexOf room (text bs) ≡ record { bytes = bs; run = Good (length bs) }

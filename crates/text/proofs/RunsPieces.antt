@@ -12,8 +12,8 @@ use Rattle.frame.specs.Choose.{if_then_else_}
 use Rattle.frame.proofs.Lists.{drop-head}
 use Rattle.text.specs.Hex.{valueOf}
 use Rattle.text.specs.Words.{isBlank}
-use Rattle.text.specs.Runs.{secondDigit, unread, firstDigit, pieceOf}
-use Rattle.text.specs.RunsPlaces.{gapAt, pieceAt}
+use Rattle.text.specs.Runs.{isGap, secondDigit, unread, firstDigit, pieceOf}
+use Rattle.text.specs.RunsPlaces.{blankBefore, pieceAt}
 use Rattle.text.specs.declared.hex.Nibble.{Nibble}
 use Rattle.text.specs.declared.hex.Nibble.the-variants.{Digit, Other}
 use Rattle.text.specs.declared.hex.HexRun.{HexRun}
@@ -22,34 +22,34 @@ use Rattle.text.specs.declared.hex.Piece.the-variants.{Byte, Stop}
 
 -- ---- the ways out of `no_digit`
 module _ (s : List ℕ) (at n : ℕ) where
-  pub unread-other : (c : ℕ) → (c ≡ 35 → ⊥) → Bad at ≡ unread n at (gapAt s at) c
+  pub unread-other : (c : ℕ) → (c ≡ 35 → ⊥) → Bad at ≡ unread n at (blankBefore s at) c
   unfolding unread
   unread-other c h = sym (rw (ne-eqb c 35 h) refl)
 
-  pub unread-first : (c : ℕ) → c ≡ 35 → at ≡ 0 → Bad at ≡ unread n at (gapAt s at) c
-  unfolding unread gapAt
+  pub unread-first : (c : ℕ) → c ≡ 35 → at ≡ 0 → Bad at ≡ unread n at (blankBefore s at) c
+  unfolding unread blankBefore
   unread-first c h z = sym (rw (eq-eqb c 35 h, eq-eqb at 0 z) refl)
 
-  pub behind : (at ≡ 0 → ⊥) → (t : Bool) → isBlank (getD s (at - 1) 0) ≡ t → gapAt s at ≡ t
-  unfolding gapAt
+  pub behind : (at ≡ 0 → ⊥) → (t : Bool) → isBlank (getD s (at - 1) 0) ≡ t → blankBefore s at ≡ t
+  unfolding blankBefore
   behind z t e = rw (ne-eqb at 0 z, e) refl
 
-  pub unread-gap : (c : ℕ) → c ≡ 35 → (at ≡ 0 → ⊥) → isBlank (getD s (at - 1) 0) ≡ true → Good n ≡ unread n at (gapAt s at) c
+  pub unread-blank : (c : ℕ) → c ≡ 35 → (at ≡ 0 → ⊥) → isBlank (getD s (at - 1) 0) ≡ true → Good n ≡ unread n at (blankBefore s at) c
   unfolding unread
-  unread-gap c h z e = sym (rw (eq-eqb c 35 h, behind z true e) refl)
+  unread-blank c h z e = sym (rw (eq-eqb c 35 h, behind z true e) refl)
 
-  pub unread-tight : (c : ℕ) → c ≡ 35 → (at ≡ 0 → ⊥) → isBlank (getD s (at - 1) 0) ≡ false → Bad at ≡ unread n at (gapAt s at) c
+  pub unread-tight : (c : ℕ) → c ≡ 35 → (at ≡ 0 → ⊥) → isBlank (getD s (at - 1) 0) ≡ false → Bad at ≡ unread n at (blankBefore s at) c
   unfolding unread
   unread-tight c h z e = sym (rw (eq-eqb c 35 h, behind z false e) refl)
 
 -- ---- and of `piece_at`: v is the value of the byte at the place
 module _ (s : List ℕ) (at n room : ℕ) (v : Nibble) (e : v ≡ valueOf (getD s at 0)) where
-  by : (x : Nibble) → v ≡ x → pieceAt s at n room ≡ firstDigit room n at (gapAt s at) (drop at s) x
+  by : (x : Nibble) → v ≡ x → pieceAt s at n room ≡ firstDigit room n at (blankBefore s at) (drop at s) x
   unfolding pieceOf
-  by x k = ap (firstDigit room n at (gapAt s at) (drop at s)) (ap valueOf (drop-head at s) ∙ sym e ∙ k)
+  by x k = ap (firstDigit room n at (blankBefore s at) (drop at s)) (ap valueOf (drop-head at s) ∙ sym e ∙ k)
 
-  pub piece-none : v ≡ Other → (r : HexRun) → r ≡ unread n at (gapAt s at) (getD s at 0) → Stop r ≡ pieceAt s at n room
-  piece-none k r f = sym (by Other k ∙ ap (λ (c : ℕ). Stop (unread n at (gapAt s at) c)) (drop-head at s) ∙ ap Stop (sym f))
+  pub piece-none : v ≡ Other → (r : HexRun) → r ≡ unread n at (blankBefore s at) (getD s at 0) → Stop r ≡ pieceAt s at n room
+  piece-none k r f = sym (by Other k ∙ ap (λ (c : ℕ). Stop (unread n at (blankBefore s at) c)) (drop-head at s) ∙ ap Stop (sym f))
 
   module _ (h : ℕ) (k : v ≡ Digit h) where
     pub piece-alone : length s - at < 2 → Stop (Odd at) ≡ pieceAt s at n room
@@ -59,17 +59,17 @@ module _ (s : List ℕ) (at n room : ℕ) (v : Nibble) (e : v ≡ valueOf (getD 
       two : ltb (length (drop at s)) 2 ≡ false
       two = le-ltb (length (drop at s)) 2 (rw (length-drop at s) l)
 
-      pub piece-blank : isBlank (getD s (at + 1) 0) ≡ true → Stop (Odd at) ≡ pieceAt s at n room
-      piece-blank b = sym (by (Digit h) k ∙ rw (two, ap isBlank (getD-drop at s 1 0) ∙ b) refl)
+      pub piece-gap : isGap (getD s (at + 1) 0) ≡ true → Stop (Odd at) ≡ pieceAt s at n room
+      piece-gap b = sym (by (Digit h) k ∙ rw (two, ap isGap (getD-drop at s 1 0) ∙ b) refl)
 
-      -- w is the value of the byte behind it, which is no blank
-      pub piece-second : isBlank (getD s (at + 1) 0) ≡ false → (w : Nibble) → w ≡ valueOf (getD s (at + 1) 0) → (x : Nibble) → w ≡ x
+      -- w is the value of the byte behind it, which is no gap
+      pub piece-second : isGap (getD s (at + 1) 0) ≡ false → (w : Nibble) → w ≡ valueOf (getD s (at + 1) 0) → (x : Nibble) → w ≡ x
           → pieceAt s at n room ≡ secondDigit room n at h x
       piece-second b w f x o =
           by (Digit h) k
-          ∙ rw (two, ap isBlank (getD-drop at s 1 0) ∙ b) (ap (secondDigit room n at h) (ap valueOf (getD-drop at s 1 0) ∙ sym f ∙ o))
+          ∙ rw (two, ap isGap (getD-drop at s 1 0) ∙ b) (ap (secondDigit room n at h) (ap valueOf (getD-drop at s 1 0) ∙ sym f ∙ o))
 
--- ---- what a byte tells: both its digits are there, there is room for it, and its second digit is no blank
+-- ---- what a byte tells: both its digits are there, there is room for it, and its second digit is no gap
 
 stop-byte : {r : HexRun} {b : ℕ} → Stop r ≡ Byte b → ⊥
 stop-byte e = let z : _≡_ {A = ℕ} 0 1 = cc in absurd (omega arith)
@@ -85,18 +85,18 @@ room-byte room n at h (Digit l) b e = by (leb room n) refl e
 pub record Whole (room n : ℕ) (t : List ℕ) : Type 0 where
   pub there : 2 ≤ length t
   pub fits : n < room
-  pub tight : isBlank (getD t 1 0) ≡ false
+  pub tight : isGap (getD t 1 0) ≡ false
 
-pub byte-whole : (room n at : ℕ) (gap : Bool) (t : List ℕ) (b : ℕ) → pieceOf room n at gap t ≡ Byte b → Whole room n t
+pub byte-whole : (room n at : ℕ) (blank : Bool) (t : List ℕ) (b : ℕ) → pieceOf room n at blank t ≡ Byte b → Whole room n t
 unfolding pieceOf
-byte-whole room n at gap t b = by (valueOf (getD t 0 0))
+byte-whole room n at blank t b = by (valueOf (getD t 0 0))
   where
-    on : (h : ℕ) (long out : Bool) → ltb (length t) 2 ≡ long → isBlank (getD t 1 0) ≡ out
+    on : (h : ℕ) (long out : Bool) → ltb (length t) 2 ≡ long → isGap (getD t 1 0) ≡ out
         → (if long then Stop (Odd at) else if out then Stop (Odd at) else secondDigit room n at h (valueOf (getD t 1 0))) ≡ Byte b → Whole room n t
     on h true out p q e = absurd (stop-byte e)
     on h false true p q e = absurd (stop-byte e)
     on h false false p q e = record { there = ltb-false (length t) 2 p; fits = room-byte room n at h (valueOf (getD t 1 0)) b e; tight = q }
 
-    by : (v : Nibble) → firstDigit room n at gap t v ≡ Byte b → Whole room n t
+    by : (v : Nibble) → firstDigit room n at blank t v ≡ Byte b → Whole room n t
     by Other e = absurd (stop-byte e)
-    by (Digit h) e = on h (ltb (length t) 2) (isBlank (getD t 1 0)) refl refl e
+    by (Digit h) e = on h (ltb (length t) 2) (isGap (getD t 1 0)) refl refl e

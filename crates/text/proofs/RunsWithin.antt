@@ -12,7 +12,7 @@ use lib.Seq.{sets, length-sets}
 use Rattle.frame.proofs.Bools.{if-either, if-both}
 use Rattle.text.specs.Hex.{valueOf}
 use Rattle.text.specs.Words.{isBlank}
-use Rattle.text.specs.Runs.{secondDigit, unread, firstDigit, pieceOf, HexRead, stop, onward, readHex, hexOf}
+use Rattle.text.specs.Runs.{isGap, opening, secondDigit, unread, firstDigit, pieceOf, HexRead, stop, onward, readHex, hexOf}
 use Rattle.text.specs.declared.hex.Nibble.{Nibble}
 use Rattle.text.specs.declared.hex.Nibble.the-variants.{Digit, Other}
 use Rattle.text.specs.declared.hex.HexRun.{HexRun}
@@ -33,22 +33,22 @@ module _ (room end : ℕ) where
   Piecewise n (Byte b) = n < room
   Piecewise n (Stop r) = Within r n room end
 
-  module _ (n at : ℕ) (gap : Bool) (t : List ℕ) (e : at + length t ≡ end) (l : 1 ≤ length t) (h : n ≤ room) where
-    unread-within : (c : ℕ) → Within (unread n at gap c) n room end
+  module _ (n at : ℕ) (blank : Bool) (t : List ℕ) (e : at + length t ≡ end) (l : 1 ≤ length t) (h : n ≤ room) where
+    unread-within : (c : ℕ) → Within (unread n at blank c) n room end
     unfolding unread
-    unread-within c = if-both (λ (r : HexRun). Within r n room end) (eqb c 35 && gap) (refl, h) (omega arith)
+    unread-within c = if-both (λ (r : HexRun). Within r n room end) (eqb c 35 && blank) (refl, h) (omega arith)
 
     second-within : (d : ℕ) → 2 ≤ length t → (v : Nibble) → Piecewise n (secondDigit room n at d v)
     second-within d g Other = omega arith
     second-within d g (Digit x) = if-either (Piecewise n) (leb room n) (Stop Full) (Byte (d * 16 + x)) (λ q. tt) (λ q. leb-false room n q)
 
-    first-within : (v : Nibble) → Piecewise n (firstDigit room n at gap t v)
+    first-within : (v : Nibble) → Piecewise n (firstDigit room n at blank t v)
     first-within Other = unread-within (getD t 0 0)
     first-within (Digit d) =
         if-either (Piecewise n) (ltb (length t) 2) _ _ (λ q. omega arith)
-        (λ q. if-both (Piecewise n) (isBlank (getD t 1 0)) (omega arith) (second-within d (ltb-false (length t) 2 q) (valueOf (getD t 1 0))))
+        (λ q. if-both (Piecewise n) (isGap (getD t 1 0)) (omega arith) (second-within d (ltb-false (length t) 2 q) (valueOf (getD t 1 0))))
 
-    piece-within : Piecewise n (pieceOf room n at gap t)
+    piece-within : Piecewise n (pieceOf room n at blank t)
     unfolding pieceOf
     piece-within = first-within (valueOf (getD t 0 0))
 
@@ -61,17 +61,18 @@ module _ (room end : ℕ) where
   onward-within (Byte b) rest n k h f e = f h (omega arith)
   onward-within (Stop r) rest n k h f e = subst (λ (j : ℕ). Within r j room end) (sym (add-zero n) ∙ e) h
 
-  read-within : (n at : ℕ) (gap : Bool) (t : List ℕ) (k : ℕ) → n ≤ room → at + length t ≡ end → Holds k n (readHex room n at gap t)
-  read-within n at gap [] k h e = λ f. (omega arith, omega arith)
-  read-within n at gap (c ∷ []) k h e =
-      let p = pieceOf room n at gap (c ∷ []) in
-      if-both (Holds k n) (isBlank c) (λ q. (omega arith, omega arith))
-      (onward-within p (stop (Good (suc n))) n k (piece-within n at gap (c ∷ []) e (omega arith) h) (λ g q. (omega arith, omega arith)))
-  read-within n at gap (c ∷ d ∷ t) k h e =
-      let p = pieceOf room n at gap (c ∷ d ∷ t) in
+  read-within : (n at : ℕ) (blank : Bool) (t : List ℕ) (k : ℕ) → n ≤ room → at + length t ≡ end → Holds k n (readHex room n at blank t)
+  read-within n at blank [] k h e = λ f. (omega arith, omega arith)
+  read-within n at blank (c ∷ []) k h e =
+      let p = pieceOf room n at blank (c ∷ []) in
+      if-both (Holds k n) (isGap c) (λ q. (omega arith, omega arith))
+      (onward-within p (stop (Good (suc n))) n k (piece-within n at blank (c ∷ []) e (omega arith) h) (λ g q. (omega arith, omega arith)))
+  read-within n at blank (c ∷ d ∷ t) k h e =
+      let p = pieceOf room n at blank (c ∷ d ∷ t) in
       let more = readHex room (suc n) (at + 2) false t in
-      if-both (Holds k n) (isBlank c) (read-within n (suc at) true (d ∷ t) k h (omega arith))
-      (onward-within p more n k (piece-within n at gap (c ∷ d ∷ t) e (omega arith) h) (λ g. read-within (suc n) (at + 2) false t k g (omega arith)))
+      if-both (Holds k n) (isGap c) (read-within n (suc at) (isBlank c) (d ∷ t) k h (omega arith))
+      (if-both (Holds k n) (opening (c ∷ d ∷ t)) (read-within n (at + 2) false t k h (omega arith))
+      (onward-within p more n k (piece-within n at blank (c ∷ d ∷ t) e (omega arith) h) (λ g. read-within (suc n) (at + 2) false t k g (omega arith))))
 
 -- ---- for callers: of a whole text, by how its run ended
 

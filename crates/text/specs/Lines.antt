@@ -84,6 +84,16 @@ nextOf s buf =
     if ltb at (s .end) then Found (lineAt buf (s .start) at (holds (s .fd) (at + 1) (s .end)))
     else Wanting (s .end - s .start) (toFront buf (s .start) (s .end))
 
+-- no read is needed
+abbrev pub isFound : Next → Bool
+isFound (Found g) = true
+isFound (Wanting n front) = false
+
+-- where the reading stands behind a line that was too long: at the input's end, or behind the newline, which is among the m bytes of the last read
+pub data Passed (fd : ℤ) (new : List ℕ) (g : Got) : Type 0 where
+  Ended : g ≡ noLine Long (endedAt fd) → Passed fd new g
+  Behind : (m : ℕ) → m ≤ length new → newlineIn new 0 m < m → g ≡ noLine Long (holds fd (newlineIn new 0 m + 1) m) → Passed fd new g
+
 -- reads may bring any bytes behind the first n, which stay; what is found is told by the buffer that they leave
 pub data Brought (fd : ℤ) (n : ℕ) (old new : List ℕ) (g : Got) : Type 0 where
   -- m bytes are in it, a newline among those behind the first n
@@ -91,8 +101,8 @@ pub data Brought (fd : ℤ) (n : ℕ) (old new : List ℕ) (g : Got) : Type 0 wh
       → g ≡ lineAt new 0 (newlineIn new n m) (holds fd (newlineIn new n m + 1) m) → Brought fd n old new g
   -- m bytes are in it, none of those a newline, and no more comes
   Last : (m : ℕ) (fine : Bool) → m ≤ length new → take n new ≡ take n old → newlineIn new n m ≡ m → g ≡ stoppedAt fd m fine → Brought fd n old new g
-  -- it was full without one
-  TooLong : (source : Source) → g ≡ noLine Long source → Brought fd n old new g
+  -- it was full without one, and the rest of the line was passed over
+  TooLong : Passed fd new g → Brought fd n old new g
 
 -- what comes of it, the buffer as it was and as it is left
 abbrev pub Follows : Next → ℤ → List ℕ → List ℕ → Got → Type 0

@@ -1,5 +1,5 @@
--- A run of hex: pairs of digits, blanks around pairs, up to the end or a `#` behind a blank. Assumes nothing.
-use mathlib.Core.Bool.{Bool, true, false, _&&_}
+-- A run of hex: pairs of digits, gaps around pairs and `0x` before them, up to the end or a `#` behind a blank. Assumes nothing.
+use mathlib.Core.Bool.{Bool, true, false, _&&_, _||_}
 use mathlib.Core.List.{List, [], _∷_}
 use Prim.Native.Nat.{ℕ, suc, _+_, _*_}
 use lib.Dec.{eqb, ltb, leb}
@@ -12,28 +12,43 @@ use Rattle.text.specs.declared.hex.HexRun.the-variants.{Good, Bad, Odd, 
 use Rattle.text.specs.declared.hex.Piece.{Piece}
 use Rattle.text.specs.declared.hex.Piece.the-variants.{Byte, Stop}
 use Rattle.text.specs.Hex.{valueOf}
-use Rattle.text.specs.Words.{isBlank}
+use Rattle.text.specs.Words.{isBlank, lowered}
 
--- ---- one place. t is the text from place `at` on, n bytes came before it, and there is room for `room`
+-- ---- what is passed over
+
+-- blanks, colons and dashes part bytes
+unfoldable pub isGap : ℕ → Bool
+isGap c = isBlank c || (eqb c 58 || eqb c 45)
+
+abbrev pub isDigit : Nibble → Bool
+isDigit (Digit d) = true
+isDigit Other = false
+
+-- `0x`, the letter in either case, and two digits right behind it
+unfoldable pub opening : List ℕ → Bool
+opening t =
+    eqb (getD t 0 0) 48 && (eqb (lowered (getD t 1 0)) 120 && (isDigit (valueOf (getD t 2 0)) && isDigit (valueOf (getD t 3 0))))
+
+-- ---- one place. t is the text from place `at` on, n bytes came before it, and there is room for `room`; `blank`: a blank stands before it
 
 -- the second digit, at the next place
 abbrev pub secondDigit : ℕ → ℕ → ℕ → ℕ → Nibble → Piece
 secondDigit room n at h Other = Stop (Bad (at + 1))
 secondDigit room n at h (Digit l) = if leb room n then Stop Full else Byte (h * 16 + l)
 
--- what is no digit ends the run if it is a `#` behind a gap, a blank
+-- what is no digit ends the run if it is a `#` behind a blank
 unfoldable pub unread : ℕ → ℕ → Bool → ℕ → HexRun
-unread n at gap c = if eqb c 35 && gap then Good n else Bad at
+unread n at blank c = if eqb c 35 && blank then Good n else Bad at
 
 abbrev pub firstDigit : ℕ → ℕ → ℕ → Bool → List ℕ → Nibble → Piece
-firstDigit room n at gap t Other = Stop (unread n at gap (getD t 0 0))
-firstDigit room n at gap t (Digit h) =
+firstDigit room n at blank t Other = Stop (unread n at blank (getD t 0 0))
+firstDigit room n at blank t (Digit h) =
     if ltb (length t) 2 then Stop (Odd at)
-    else if isBlank (getD t 1 0) then Stop (Odd at)
+    else if isGap (getD t 1 0) then Stop (Odd at)
     else secondDigit room n at h (valueOf (getD t 1 0))
 
 unfoldable pub pieceOf : ℕ → ℕ → ℕ → Bool → List ℕ → Piece
-pieceOf room n at gap t = firstDigit room n at gap t (valueOf (getD t 0 0))
+pieceOf room n at blank t = firstDigit room n at blank t (valueOf (getD t 0 0))
 
 -- ---- all of it
 
@@ -50,13 +65,14 @@ abbrev pub onward : Piece → HexRead → HexRead
 onward (Byte b) rest = record { bytes = b ∷ rest .bytes; run = rest .run }
 onward (Stop r) rest = stop r
 
--- blanks are passed over
+-- gaps and openings are passed over
 abbrev pub readHex : ℕ → ℕ → ℕ → Bool → List ℕ → HexRead
-readHex room n at gap [] = stop (Good n)
-readHex room n at gap (c ∷ []) = if isBlank c then stop (Good n) else onward (pieceOf room n at gap (c ∷ [])) (stop (Good (suc n)))
-readHex room n at gap (c ∷ d ∷ t) =
-    if isBlank c then readHex room n (suc at) true (d ∷ t)
-    else onward (pieceOf room n at gap (c ∷ d ∷ t)) (readHex room (suc n) (at + 2) false t)
+readHex room n at blank [] = stop (Good n)
+readHex room n at blank (c ∷ []) = if isGap c then stop (Good n) else onward (pieceOf room n at blank (c ∷ [])) (stop (Good (suc n)))
+readHex room n at blank (c ∷ d ∷ t) =
+    if isGap c then readHex room n (suc at) (isBlank c) (d ∷ t)
+    else if opening (c ∷ d ∷ t) then readHex room n (at + 2) false t
+    else onward (pieceOf room n at blank (c ∷ d ∷ t)) (readHex room (suc n) (at + 2) false t)
 
 -- what a text says, for so much room
 unfoldable pub hexOf : ℕ → List ℕ → HexRead

@@ -4,14 +4,19 @@ use mathlib.Core.List.{List}
 use Prim.Native.Nat.{ℕ, _-_}
 use lib.Dec.{eqb}
 use lib.ListN.{getD, drop}
+use Rattle.frame.specs.Choose.{if_then_else_}
 use Rattle.text.specs.declared.hex.Piece.{Piece}
 use Rattle.text.specs.Words.{isBlank}
-use Rattle.text.specs.Runs.{pieceOf}
+use Rattle.text.specs.Runs.{isGap, opening, pieceOf}
 
 -- a blank stands before a place
-unfoldable pub gapAt : List ℕ → ℕ → Bool
-gapAt s at = not (eqb at 0) && isBlank (getD s (at - 1) 0)
+unfoldable pub blankBefore : List ℕ → ℕ → Bool
+blankBefore s at = not (eqb at 0) && isBlank (getD s (at - 1) 0)
+
+-- how many bytes are passed over at a place
+unfoldable pub passedAt : List ℕ → ℕ → ℕ
+passedAt s at = if isGap (getD s at 0) then 1 else if opening (drop at s) then 2 else 0
 
 -- what stands at a place, where n bytes were read and there is room for `room`
 abbrev pub pieceAt : List ℕ → ℕ → ℕ → ℕ → Piece
-pieceAt s at n room = pieceOf room n at (gapAt s at) (drop at s)
+pieceAt s at n room = pieceOf room n at (blankBefore s at) (drop at s)

@@ -1,7 +1,7 @@
-// Text in and out for the programs: files by argument, hex, lines from a descriptor, words of an event line, standard output.
+// Text in: files by argument, hex, lines from a descriptor, words of a line and what they say; and a file saved whole.
 pub mod file;
 pub mod hex;
 pub mod lines;
-pub mod print;
-pub mod put;
+pub mod save;
+pub mod tokens;
 pub mod words;

@@ -7,8 +7,7 @@ ghost use mathlib.Core.Path.{_≡_};
 ghost use Prim.Native.Nat.{_-_, _≤_};
 ghost use lib.ListN.{length};
 ghost use Rattle.text.specs.Lines.{Inside, isEnd, holds, endedAt, noLine, newlineIn, lineAt, lastLine, stoppedAt, toFront};
-ghost use Rattle.text.specs.Lines.{nextOf, Brought, Follows};
-ghost use Rattle.text.specs.declared.lines.Reached.the-variants.{Long};
+ghost use Rattle.text.specs.Lines.{nextOf, isFound, Passed, Brought, Follows};
 
 // Where the reading stands: buf[start..end] was read and not handed out; `done`: the input has ended.
 pub struct Source {
@@ -107,6 +106,24 @@ pub fn next(s: Source, buf: &mut [u8]) -> Got
     }
     let n = to_front(buf, start, end);
     fill(s.fd, n, buf)
+}
+
+// Whether `next` gives its answer without a read, which may have to wait.
+pub fn at_hand(s: Source, buf: &[u8]) -> bool
+    ensures { λ r. ⌜ r ≡ isFound (nextOf s (now (buf .entry))) ⌝ }
+{
+    let start = s.start;
+    let end = s.end;
+    if s.done {
+        return true;
+    }
+    if buf.len() < end {
+        return true;
+    }
+    if end < start {
+        return true;
+    }
+    newline(buf, start, end) < end
 }
 
 // The line buf[from..to], which a newline ends.
@@ -238,7 +255,7 @@ fn fill(fd: i32, n: usize, buf: &mut [u8]) -> Got
 // Passes over the rest of a line that is too long: at most 2^62 reads, which no input outlasts.
 fn pass(fd: i32, buf: &mut [u8]) -> Got
     ensures { λ r. ⌜ Inside r (length (now (buf .exit))) ⌝ }
-    ensures { λ r. ⌜ r ≡ noLine Long (r .source) ⌝ }
+    ensures { λ r. ⌜ Passed fd (now (buf .exit)) r ⌝ }
 {
     let mut left: u64 = 4611686018427387904;
     while 0 < left {

@@ -1,8 +1,8 @@
-// The first word of an event line. Words are parted by blanks: spaces and tabs.
+// The first word of an event line. Words are parted by blanks, spaces and tabs, and their letters may be of either case.
 ghost use mathlib.Core.Path.{_≡_};
 ghost use Prim.Native.Nat.{_+_, _≤_};
 ghost use lib.ListN.{length, drop};
-ghost use Rattle.text.specs.Words.{isBlank, solid, lead, sameText, bareWord, wordOf, firstWord, bareText};
+ghost use Rattle.text.specs.Words.{isBlank, solid, lead, lowered, sameWord, bareWord, wordOf, firstWord, bareText};
 
 // What the first word of a line is: Empty where it has only blanks, Comment where its first byte but blanks is `#`. LabelSeal and ChipSeal are the
 // words with a `+`: the check sum is to be added.
@@ -51,7 +51,7 @@ pub fn skip_blanks(s: &[u8], from: usize) -> usize
 }
 
 // The first place from `from` on that holds a blank, or s's length.
-fn word_end(s: &[u8], from: usize) -> usize
+pub fn word_end(s: &[u8], from: usize) -> usize
     requires { ⌜ from ≤ length (now s) ⌝ }
     ensures { λ r. ⌜ r ≡ from + lead solid (drop from (now (s .entry))) ⌝ }
 {
@@ -65,15 +65,29 @@ fn word_end(s: &[u8], from: usize) -> usize
     i
 }
 
-fn same(a: &[u8], b: &[u8]) -> bool
-    ensures { λ r. ⌜ r ≡ sameText (now (a .entry)) (now (b .entry)) ⌝ }
+// A capital as a small letter, anything else as it is.
+pub fn lower(c: u8) -> u8
+    ensures { λ r. ⌜ r ≡ lowered c ⌝ }
+{
+    if c < 65 {
+        return c;
+    }
+    if c < 91 {
+        return c + 32;
+    }
+    c
+}
+
+// Whether a, its letters in either case, is b, which is in small letters.
+pub fn same_word(a: &[u8], b: &[u8]) -> bool
+    ensures { λ r. ⌜ r ≡ sameWord (now (a .entry)) (now (b .entry)) ⌝ }
 {
     if a.len() != b.len() {
         return false;
     }
     let mut i = 0;
     while i < a.len() {
-        if a[i] != b[i] {
+        if lower(a[i]) != b[i] {
             return false;
         }
         i += 1;
@@ -85,13 +99,13 @@ fn same(a: &[u8], b: &[u8]) -> bool
 fn bare_word(s: &[u8]) -> Keyword
     ensures { λ r. ⌜ r ≡ bareWord (now (s .entry)) ⌝ }
 {
-    if same(s, b"off") {
+    if same_word(s, b"off") {
         return Keyword::Off;
     }
-    if same(s, b"on") {
+    if same_word(s, b"on") {
         return Keyword::On;
     }
-    if same(s, b"eof") {
+    if same_word(s, b"eof") {
         return Keyword::Eof;
     }
     Keyword::Unknown
@@ -100,19 +114,19 @@ fn bare_word(s: &[u8]) -> Keyword
 fn named(s: &[u8]) -> Keyword
     ensures { λ r. ⌜ r ≡ wordOf (now (s .entry)) ⌝ }
 {
-    if same(s, b"label") {
+    if same_word(s, b"label") {
         return Keyword::Label;
     }
-    if same(s, b"label+") {
+    if same_word(s, b"label+") {
         return Keyword::LabelSeal;
     }
-    if same(s, b"chip") {
+    if same_word(s, b"chip") {
         return Keyword::Chip;
     }
-    if same(s, b"chip+") {
+    if same_word(s, b"chip+") {
         return Keyword::ChipSeal;
     }
-    if same(s, b"draws") {
+    if same_word(s, b"draws") {
         return Keyword::Draws;
     }
     bare_word(s)

@@ -1,21 +1,34 @@
-// Reads lines through a buffer of 64 bytes, and prints of each its number, its word, and its bytes or what is wrong with them.
+// Prints what the words of three texts say; then reads lines through a buffer of 64 bytes, and prints of each its number, its word, and its bytes or
+// what is wrong with them.
+use libc::STDERR_FILENO;
 use libc::STDIN_FILENO;
+use print::say::line_end;
+use print::say::print_byte;
+use print::say::print_bytes;
+use print::say::print_number;
+use print::say::print_uid;
+use print::say::say;
+use print::say::say_byte;
+use print::say::say_number;
 use text::hex::HexRun;
-use text::hex::print_byte;
-use text::hex::print_bytes;
-use text::hex::print_uid;
 use text::hex::read_bytes;
 use text::lines::Reached;
 use text::lines::is_end;
 use text::lines::next;
 use text::lines::source_of;
-use text::print::line_end;
-use text::print::print_number;
-use text::print::say;
-use text::print::say_number;
+use text::tokens::ByteRead;
+use text::tokens::NumberRead;
+use text::tokens::QuotedRead;
+use text::tokens::after_mark;
+use text::tokens::byte_in;
+use text::tokens::number_in;
+use text::tokens::quoted_in;
+use text::tokens::uid_in;
+use text::tokens::word_from;
 use text::words::Keyword;
 use text::words::first_word;
 use text::words::is_blank_rest;
+use text::words::same_word;
 
 fn name(w: Keyword) {
     match w {
@@ -146,7 +159,84 @@ fn printed() {
     line_end();
 }
 
+fn number(word: &[u8]) {
+    let r = number_in(word);
+    match r {
+        NumberRead::Number(n) => say_number(b" number ", n),
+        NumberRead::Other => (),
+    }
+}
+
+fn byte(word: &[u8]) {
+    let r = byte_in(word);
+    match r {
+        ByteRead::Byte(b) => say_byte(b" byte ", b),
+        ByteRead::Other => (),
+    }
+}
+
+fn uid(word: &[u8]) {
+    let r = uid_in(word);
+    if !r.fine {
+        return;
+    }
+    say(b" UID ");
+    let u = r.uid;
+    print_uid(u);
+}
+
+// What stands between quotes, of at most 10 bytes.
+fn quoted(word: &[u8]) {
+    let mut out = [b'.'; 10];
+    let r = quoted_in(word, &mut out);
+    match r {
+        QuotedRead::Quoted(n) => {
+            place(b" quoted ", n);
+            say(b" ");
+            say(&out);
+        }
+        QuotedRead::Other => (),
+    }
+}
+
+fn word(word: &[u8]) {
+    say(word);
+    number(word);
+    byte(word);
+    uid(word);
+    quoted(word);
+    if same_word(word, b"uid") {
+        say(b" itself");
+    }
+    line_end();
+}
+
+// The first ten words of a text, behind its mark.
+fn words(s: &[u8]) {
+    let mut at = after_mark(s);
+    let mut left: u64 = 10;
+    while 0 < left {
+        left -= 1;
+        let w = word_from(s, at);
+        let from = w.from;
+        let to = w.to;
+        if from < to {
+            word(&s[from..to]);
+        }
+        at = to;
+    }
+}
+
 fn main() {
+    words(
+        b"  12 7f\t0x0A UID e0041234567890AB E0:04:12:34-56-78-90-aB 0xE0041234567890A 1000000000",
+    );
+    words(b"\"two words\"\"\" \"more than ten\" \"open it # and a comment");
+    words(b"\xEF\xBB\xBF999999999 12# #1");
+    if 1 < os::arg_count() {
+        io::write_all(STDERR_FILENO, b"usage: text_test\n");
+        return;
+    }
     printed();
     let mut buf = [0u8; 64];
     lines(STDIN_FILENO, &mut buf);

@@ -2,7 +2,7 @@
 use borrow.Author.Needs.{needs}
 use denote.Ref.{now}
 use mathlib.Core.Path.{sym, _∙_}
-use Rattle.text.proofs.RunsPieces.{unread-other, unread-first, unread-gap, unread-tight}
+use Rattle.text.proofs.RunsPieces.{unread-other, unread-first, unread-blank, unread-tight}
 use Rattle.text.proofs.hex.no_digit.Statement.{statement}
 use Rattle.text.proofs.hex.no_digit.Tie as tie
 
@@ -21,7 +21,7 @@ returns-3 c =
     let z = o .before .before in
     let l = z .before in
     let a = start l .args in
-    unread-gap (now (a .s)) (a .at) (a .n) _ (l .if1 .left) (z .if2 .left) (sym (o .is-blank .ensures) ∙ c .if3 .taken)
+    unread-blank (now (a .s)) (a .at) (a .n) _ (l .if1 .left) (z .if2 .left) (sym (o .is-blank .ensures) ∙ c .if3 .taken)
 
 returns-4 : tie.Need-returns-4
 returns-4 c =

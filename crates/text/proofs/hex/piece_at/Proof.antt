@@ -10,7 +10,7 @@ use Rattle.text.specs.declared.hex.Nibble.{Nibble}
 use Rattle.text.specs.declared.hex.Nibble.the-variants.{Digit, Other}
 use Rattle.text.specs.declared.hex.Piece.the-variants.{Byte}
 use Rattle.text.proofs.HexDigits.{answered-below}
-use Rattle.text.proofs.RunsPieces.{piece-none, piece-alone, piece-blank, piece-second}
+use Rattle.text.proofs.RunsPieces.{piece-none, piece-alone, piece-gap, piece-second}
 use Rattle.text.proofs.hex.piece_at.Statement.{statement}
 use Rattle.text.proofs.hex.piece_at.Tie as tie
 
@@ -40,8 +40,8 @@ returns-3 c =
     let l = c .before .before .before in
     let v = valued l in
     let a = start v .args in
-    piece-blank (now (a .s)) (a .at) (a .n) (a .room) _ (v .value .ensures) _ (l .before .before .a .given .1) (l .if1 .left)
-    (sym (c .before .is-blank .ensures) ∙ c .if2 .taken)
+    piece-gap (now (a .s)) (a .at) (a .n) (a .room) _ (v .value .ensures) _ (l .before .before .a .given .1) (l .if1 .left)
+    (sym (c .before .is-gap .ensures) ∙ c .if2 .taken)
 
 -- once the second digit's value is known, it decides
 second : (w : tie.After-value2) (x : Nibble) → w .value2 .result ≡ x
@@ -52,7 +52,7 @@ second w x =
     let v = valued l in
     let a = start v .args in
     piece-second (now (a .s)) (a .at) (a .n) (a .room) _ (v .value .ensures) _ (l .before .before .a .given .1) (l .if1 .left)
-    (sym (w .before .before .is-blank .ensures) ∙ w .before .if2 .left) _ (w .value2 .ensures) x
+    (sym (w .before .before .is-gap .ensures) ∙ w .before .if2 .left) _ (w .value2 .ensures) x
 
 returns-4 : tie.Need-returns-4
 returns-4 c = sym (second (c .before .before) Other (c .enum-told2 .given .1))

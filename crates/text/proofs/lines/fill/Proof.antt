@@ -7,8 +7,7 @@ use native.Mathlib.Omega.{arith}
 use mathlib.Core.List.{List}
 use Prim.Native.Nat.{ℕ, _+_, _-_, _≤_}
 use borrow.Rule.Slice.PartMut.{putMid}
-use Rattle.text.specs.Lines.{TooLong}
-use Rattle.text.proofs.LinesBrought.{Reading, reading-first, reading-read, read-within, reading-on, brought-line, brought-last}
+use Rattle.text.proofs.LinesBrought.{Reading, reading-first, reading-read, read-within, reading-on, brought-line, brought-last, brought-long}
 use Rattle.text.proofs.lines.fill.Statement.{statement}
 use Rattle.text.proofs.lines.fill.Tie as tie
 
@@ -60,7 +59,9 @@ loop-again c =
     reading-on (after o) (room o) (omega arith) (n .newline .ensures .1 .1) (c .if2 .left) (n .newline .ensures .1 .0)
 
 returns-3 : tie.Need-returns-3 Inv-loop μ-loop
-returns-3 c = (search needs, TooLong _ (c .before .before .pass .ensures .1))
+returns-3 c =
+    let p = c .before .before in
+    (search needs, brought-long (toZ-ofZ (p .before .before .before .before .before .fits .fd)) (p .pass .ensures .1))
 
 pub fill-spec : {M : Type 1} → statement M
 fill-spec =

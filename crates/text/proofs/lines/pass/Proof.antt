@@ -1,8 +1,9 @@
--- The buffer keeps its length, and the budget falls with each read; a line is never found. Assumes nothing.
+-- The buffer keeps its length, and the budget falls with each read; each way out is a law of LinesBrought. Assumes nothing.
 use lib.ListN.{length}
 use mathlib.Core.Path.{_≡_}
 use borrow.Author.Needs.{needs}
-use Rattle.text.proofs.LinesBrought.{long-own}
+use mir.Facts.{toZ-ofZ}
+use Rattle.text.proofs.LinesBrought.{pass-ended, pass-behind}
 use Rattle.text.proofs.lines.pass.Statement.{statement}
 use Rattle.text.proofs.lines.pass.Tie as tie
 
@@ -11,6 +12,32 @@ Inv-loop fd buf₀ left₀ buf left = length buf ≡ length buf₀
 
 abbrev μ-loop : tie.MeasureT-loop
 μ-loop fd buf₀ left₀ buf left = left
+
+abbrev start : tie.After-read-part Inv-loop μ-loop → tie.Start Inv-loop μ-loop
+start o = o .before .before .before .before .before
+
+returns : tie.Need-returns Inv-loop μ-loop
+returns c =
+    let e = c .before in
+    let s = start (e .before .before .before .before .before) in
+    (search needs, pass-ended (toZ-ofZ (s .fits .fd)) (c .other .ensures .1) (e .ended .ensures))
+
+returns-2 : tie.Need-returns-2 Inv-loop μ-loop
+returns-2 c =
+    let h = c .before in
+    let t = h .before in
+    let n = t .before in
+    let o = n .before .before .before .before .before in (
+      search needs,
+      pass-behind (toZ-ofZ (start o .fits .fd)) (c .other2 .ensures .1) (o .read-part .ensures .0) (n .newline .ensures .1 .1) (t .if2 .taken)
+          (h .holding .ensures),
+    )
+
+returns-3 : tie.Need-returns-3 Inv-loop μ-loop
+returns-3 c =
+    let e = c .before in
+    let s = e .before .before .before .before in
+    (search needs, pass-ended (toZ-ofZ (s .fits .fd)) (c .other3 .ensures .1) (e .ended2 .ensures))
 
 pub pass-spec : {M : Type 1} → statement M
 pass-spec =
@@ -25,16 +52,16 @@ pass-spec =
     (λ c κs. search needs)
     (λ c κs. search needs)
     (λ c. search needs)
-    (λ c. (search needs, long-own (c .other .ensures .1)))
+    returns
     (λ c κs. search needs)
     (λ c. search needs)
     (λ c κs. search needs)
     (λ c κs. search needs)
     (λ c. search needs)
-    (λ c. (search needs, long-own (c .other2 .ensures .1)))
+    returns-2
     (λ c. search needs)
     (λ c. search needs)
     (λ c κs. search needs)
     (λ c κs. search needs)
     (λ c. search needs)
-    (λ c. (search needs, long-own (c .other3 .ensures .1))))
+    returns-3)

@@ -1,0 +1,22 @@
+-- The tests stand in the definition's order. Assumes nothing.
+use borrow.Author.Needs.{needs}
+use denote.Ref.{now}
+use Rattle.frame.proofs.Tests.{tests}
+use Rattle.text.specs.Tokens.{markLength}
+use Rattle.text.proofs.TokensMark.{mark-short}
+use Rattle.text.proofs.tokens.after_mark.Statement.{statement}
+use Rattle.text.proofs.tokens.after_mark.Tie as tie
+
+pub after-mark-spec : {M : Type 1} → statement M
+unfolding markLength
+after-mark-spec =
+    tie.close
+    (tie.spec
+    (λ c. (mark-short (now (c .before .args .s)) (c .if1 .taken), search needs))
+    (λ c. search needs)
+    (λ c. search tests)
+    (λ c. search needs)
+    (λ c. search tests)
+    (λ c. search needs)
+    (λ c. search tests)
+    (λ c. search tests))
