@@ -6,3 +6,4 @@ pub mod LabelSound
 pub mod LabelFramed
 pub mod ChipSound
 pub mod ChipFramed
+pub mod WhyNobody

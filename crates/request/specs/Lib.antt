@@ -3,3 +3,4 @@ pub mod Table
 pub mod Label
 pub mod Chip
 pub mod Signal
+pub mod Why

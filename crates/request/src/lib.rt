@@ -3,3 +3,4 @@ pub mod chip;
 pub mod label;
 pub mod signal;
 pub mod table;
+pub mod why;
