@@ -39,8 +39,15 @@ chipRules b =
 unfoldable pub placeOf : ℕ → ℕ
 placeOf n = if ltb n 16 then 4 * n else 64
 
+abbrev pub bytesAt : ℕ → List ℕ → List ℕ
+bytesAt n b = part (placeOf n) 4 b
+
 abbrev pub blockOf : ℕ → List ℕ → ℕ
-blockOf n b = num (part (placeOf n) 4 b)
+blockOf n b = num (bytesAt n b)
+
+-- its UID (68 to 75)
+abbrev pub uidOf : List ℕ → List ℕ
+uidOf b = part 68 8 b
 
 -- the block that an order writes to
 unfoldable pub named : Order → List ℕ → ℕ

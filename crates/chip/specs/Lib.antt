@@ -3,3 +3,4 @@ pub mod Write
 pub mod Step
 pub mod Body
 pub mod Answer
+pub mod Field

@@ -15,8 +15,7 @@ ghost use mathlib.Core.Bool.{not, _&&_, _||_};
 ghost use lib.Dec.{eqb, ltb};
 ghost use Prim.Native.Nat.{_≤_};
 ghost use lib.ListN.{length};
-ghost use Rattle.frame.specs.Number.{part};
-ghost use Rattle.chip.specs.Body.{chipRules, loadOf, storeOf, placeOf, blockOf, named, worked, stepped, nextChip, saidChip};
+ghost use Rattle.chip.specs.Body.{chipRules, loadOf, storeOf, placeOf, bytesAt, blockOf, uidOf, named, worked, stepped, nextChip, saidChip};
 
 // In state 0 Chip_ID is 0.
 fn wrong_id(state: u8, id: u8) -> bool
@@ -124,9 +123,19 @@ pub fn block_of(b: &[u8], a: u8) -> u32
     word_at(b, place(a))
 }
 
+// The bytes of block a.
+pub fn bytes_of(b: &[u8], a: u8) -> &[u8]
+    requires { ⌜ 80 ≤ length (now b) ⌝ }
+    ensures { λ r. ⌜ now r ≡ bytesAt a (now (b .entry)) ⌝ }
+{
+    let at = place(a);
+    let end = at + 4;
+    &b[at..end]
+}
+
 pub fn uid_of(b: &[u8]) -> [u8; 8]
     requires { ⌜ 80 ≤ length (now b) ⌝ }
-    ensures { λ r. ⌜ r ≡ part 68 8 (now (b .entry)) ⌝ }
+    ensures { λ r. ⌜ r ≡ uidOf (now (b .entry)) ⌝ }
 {
     uid_at(b, 68)
 }

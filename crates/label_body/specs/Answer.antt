@@ -9,7 +9,7 @@ use Rattle.frame.specs.CheckSum.{framed}
 use Rattle.label.specs.declared.step.Answer.{Answer}
 use Rattle.label.specs.declared.step.Answer.the-variants as a
 use Rattle.label_body.specs.Locks.{lockOn}
-use Rattle.label_body.specs.Body.{blockAt, sizeOf}
+use Rattle.label_body.specs.Body.{blockOf}
 
 abbrev pub speaks : Answer → Bool
 speaks a.Silent = false
@@ -21,7 +21,7 @@ speaks a.Info = true
 
 -- 20 read: lock byte if Option, block
 unfoldable pub blockBytes : ℕ → Bool → List ℕ → List ℕ
-blockBytes n lock b = (if lock then lockOn n b ∷ [] else []) ++ part (blockAt b n) (sizeOf b) b
+blockBytes n lock b = (if lock then lockOn n b ∷ [] else []) ++ blockOf n b
 
 -- an error is 01, code; Inventory answers 00, DSFID, UID; 2B 00, 0F, UID, DSFID, AFI, blocks less 1, length less 1, IC reference;
 -- success otherwise 00; each with its check sum

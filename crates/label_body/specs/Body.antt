@@ -56,6 +56,10 @@ sizeOf b = getD b 12 0 + 1
 unfoldable pub blockAt : List ℕ → ℕ → ℕ
 blockAt b n = 32 + lockRoom b + n * sizeOf b
 
+-- the bytes of block n
+abbrev pub blockOf : ℕ → List ℕ → List ℕ
+blockOf n b = part (blockAt b n) (sizeOf b) b
+
 -- the length that the numbers inside a body ask for
 abbrev pub wantedOf : List ℕ → ℕ
 wantedOf b = 32 + lockRoom b + blocksOf b * sizeOf b

@@ -4,3 +4,4 @@ pub mod Body
 pub mod Answer
 pub mod Facts
 pub mod Slots
+pub mod Field

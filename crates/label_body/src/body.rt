@@ -16,8 +16,8 @@ use request::label::Family;
 use request::label::Request;
 ghost use mathlib.Core.Path.{_≡_};
 ghost use Prim.Native.Nat.{_≤_};
-ghost use lib.ListN.{length};
-ghost use Rattle.label_body.specs.Body.{Sized, loadOf, storeOf, blockAt, named, worked, stepped, nextLabel, saidLabel};
+ghost use lib.ListN.{length, getD};
+ghost use Rattle.label_body.specs.Body.{Sized, loadOf, storeOf, blockAt, blockOf, named, worked, stepped, nextLabel, saidLabel};
 ghost use Rattle.label_body.specs.Facts.{WorkFits};
 ghost use Rattle.label_body.specs.Slots.{uidOf, takesPart, clear};
 
@@ -65,6 +65,16 @@ pub fn place(b: &[u8], n: u8) -> usize
     let room = lock_room(b);
     let size = b[12] as usize + 1;
     32 + room + n as usize * size
+}
+
+// The bytes of block n.
+pub fn block(b: &[u8], n: u8) -> &[u8]
+    requires { ⌜ Sized (now b) × (n ≤ getD (now b) 11 0) ⌝ }
+    ensures { λ r. ⌜ now r ≡ blockOf n (now (b .entry)) ⌝ }
+{
+    let at = place(b, n);
+    let end = at + (b[12] as usize + 1);
+    &b[at..end]
 }
 
 // The lock of the block that a call's first parameter names.

@@ -1,5 +1,6 @@
 -- The laws of the rack.
 pub mod FilePlaces
+pub mod PlaceHeld
 pub mod FileVerdict
 pub mod FileJudged
 pub mod FileRebuilt

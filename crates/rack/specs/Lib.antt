@@ -4,3 +4,4 @@ pub mod Facts
 pub mod Event
 pub mod Run
 pub mod Pass
+pub mod Place

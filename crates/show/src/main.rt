@@ -1,59 +1,24 @@
-// show RACK: prints a rack file, a line for each tag.
-mod chips;
-mod labels;
-mod words;
-
-use crate::words::number;
+// show RACK: prints a rack file as text, or the line why it is refused.
 use libc::STDERR_FILENO;
-use rack::file::body_of;
-use rack::file::count;
-use rack::file::kind_of;
-use rack::tag::CHIP;
-use rack::tag::LABEL;
+use print::say::say;
+use sheet::tags::put_sheet;
 use text::file::load;
-use text::print::say;
-ghost use mathlib.Core.Path.{_≡_};
-ghost use mathlib.Core.Bool.{true};
-ghost use lib.ListN.{length};
-ghost use Rattle.rack.specs.File.{kindOf, lengthFits};
-ghost use Rattle.rack.specs.Facts.{RackFine};
 
-// Tag i.
-fn show_tag(i: usize, kind: u8, body: &[u8])
-    requires { ⌜ lengthFits (kindOf kind) (length (now body)) ≡ true ⌝ }
-{
-    number(i);
-    if kind == LABEL {
-        labels::show(body);
-    }
-    if kind == CHIP {
-        chips::show(body);
-    }
-    say(b"\n");
+// More than the text of the largest rack.
+const ROOM: usize = 1048576;
+
+fn room() -> [u8; ROOM] {
+    [0u8; ROOM]
 }
 
-// How many tags there are, and every tag in the order of the entries.
-fn show_tags(tags: &[u8])
-    requires { ⌜ RackFine (now tags) ⌝ }
-{
-    let n = count(tags);
-    say(b"tags ");
-    number(n);
-    say(b"\n");
-    let mut i = 0;
-    while i < n {
-        show_tag(i, kind_of(tags, i), body_of(tags, i));
-        i += 1;
-    }
-}
-
-fn show(tags: &[u8]) {
-    let v = rack::file::judge(tags);
-    if v.number != 0 {
-        say(b"refused 1\n");
+// What is printed of a file, laid into text and written whole.
+fn show(text: &mut [u8], file: &[u8]) {
+    let n = put_sheet(text, 0, file);
+    if n < text.len() {
+        say(&text[0..n]);
         return;
     }
-    show_tags(tags);
+    io::write_all(STDERR_FILENO, b"RACK: its text is too long\n");
 }
 
 fn main() {
@@ -61,11 +26,12 @@ fn main() {
         io::write_all(STDERR_FILENO, b"usage: show RACK\n");
         return;
     }
-    let mut tags = [0u8; 65537];
-    let loaded = load(1, b"RACK", &mut tags);
+    let mut file = [0u8; 65537];
+    let loaded = load(1, b"RACK", &mut file);
     if !loaded.fine {
         return;
     }
     let len = loaded.len;
-    show(&tags[0..len]);
+    let mut text = room();
+    show(&mut text, &file[0..len]);
 }

@@ -1,0 +1,20 @@
+-- Puts, one behind the other. Assumes nothing.
+use borrow.Author.Needs.{needs}
+use Rattle.print.proofs.Puts.{puts}
+use Rattle.sheet.specs.Blocks.{counterLine}
+use Rattle.sheet.proofs.blocks.put_counter_line.Statement.{statement}
+use Rattle.sheet.proofs.blocks.put_counter_line.Tie as tie
+
+pub put-counter-line-spec : {M : Type 1} → statement M
+unfolding counterLine
+put-counter-line-spec =
+    tie.close
+    (tie.spec
+    (λ c κs. search needs)
+    (λ c. search needs)
+    (λ c κs. search needs)
+    (λ c κs. search needs)
+    (λ c. search needs)
+    (λ c κs. search needs)
+    (λ c. search needs)
+    (λ c. search puts))

@@ -1,0 +1,21 @@
+-- Puts, one behind the other. Assumes nothing.
+use borrow.Author.Needs.{needs}
+use Rattle.print.proofs.Puts.{puts}
+use Rattle.sheet.specs.Blocks.{tagLine}
+use Rattle.sheet.proofs.blocks.put_tag_line.Statement.{statement}
+use Rattle.sheet.proofs.blocks.put_tag_line.Tie as tie
+
+pub put-tag-line-spec : {M : Type 1} → statement M
+unfolding tagLine
+put-tag-line-spec =
+    tie.close
+    (tie.spec
+    (λ c κs. search needs)
+    (λ c κs. search needs)
+    (λ c. search needs)
+    (λ c κs. search needs)
+    (λ c κs. search needs)
+    (λ c. search needs)
+    (λ c κs. search needs)
+    (λ c. search needs)
+    (λ c. search puts))

@@ -1,0 +1,18 @@
+-- Puts, one behind the other. Assumes nothing.
+use borrow.Author.Needs.{needs}
+use Rattle.print.proofs.Puts.{puts}
+use Rattle.sheet.specs.Labels.{afiField}
+use Rattle.sheet.proofs.labels.put_afi_field.Statement.{statement}
+use Rattle.sheet.proofs.labels.put_afi_field.Tie as tie
+
+pub put-afi-field-spec : {M : Type 1} → statement M
+unfolding afiField
+put-afi-field-spec =
+    tie.close
+    (tie.spec
+    (λ c. search needs)
+    (λ c κs. search needs)
+    (λ c κs. search needs)
+    (λ c κs. search needs)
+    (λ c. search needs)
+    (λ c. search puts))

@@ -1,0 +1,21 @@
+-- Puts, one behind the other. Assumes nothing.
+use borrow.Author.Needs.{needs}
+use Rattle.print.proofs.Puts.{puts}
+use Rattle.sheet.specs.Labels.{labelLine}
+use Rattle.sheet.proofs.labels.put_label_line.Statement.{statement}
+use Rattle.sheet.proofs.labels.put_label_line.Tie as tie
+
+pub put-label-line-spec : {M : Type 1} → statement M
+unfolding labelLine
+put-label-line-spec =
+    tie.close
+    (tie.spec
+    (λ c. search needs)
+    (λ c κs. search needs)
+    (λ c κs. search needs)
+    (λ c κs. search needs)
+    (λ c κs. search needs)
+    (λ c. search needs)
+    (λ c κs. search needs)
+    (λ c. search needs)
+    (λ c. search puts))

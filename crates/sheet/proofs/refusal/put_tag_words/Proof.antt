@@ -1,0 +1,19 @@
+-- Puts, one behind the other. Assumes nothing.
+use borrow.Author.Needs.{needs}
+use Rattle.print.proofs.Puts.{puts}
+use Rattle.sheet.specs.Refusal.{tagWords}
+use Rattle.sheet.proofs.refusal.put_tag_words.Statement.{statement}
+use Rattle.sheet.proofs.refusal.put_tag_words.Tie as tie
+
+pub put-tag-words-spec : {M : Type 1} → statement M
+unfolding tagWords
+put-tag-words-spec =
+    tie.close
+    (tie.spec
+    (λ c. search needs)
+    (λ c κs. search needs)
+    (λ c κs. search needs)
+    (λ c. search needs)
+    (λ c κs. search needs)
+    (λ c. search needs)
+    (λ c. search puts))

@@ -1,2 +1,0 @@
--- What `show` needs of a well-formed rack.
-pub mod Tags
