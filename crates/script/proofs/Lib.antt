@@ -1,6 +1,8 @@
 -- The laws of what a line asks.
 pub mod LinesDraws
 pub mod LinesActions
+pub mod LinesCommands
 pub mod LinesInside
 pub mod LinesRack
 pub mod LinesMeant
+pub mod LinesAsked

@@ -1,7 +1,7 @@
 -- The ways out of what a line asks. Assumes nothing.
 use mathlib.Core.Path.{_≡_, refl, ap, sym, _∙_}
 use mathlib.Core.Bool.{Bool, true, false}
-use mathlib.Core.List.{List}
+use mathlib.Core.List.{List, [], _∷_}
 use Prim.Native.Nat.{ℕ, _+_, _-_, _≤_, _<_}
 use native.Mathlib.Nat.{sub-zero}
 use native.Mathlib.Omega.{arith}
@@ -19,11 +19,13 @@ use Rattle.text.specs.declared.words.Keyword.{Keyword}
 use Rattle.text.specs.declared.words.FirstWord.{FirstWord}
 use Rattle.text.specs.declared.hex.HexRun.{HexRun}
 use Rattle.text.specs.declared.hex.HexRun.the-variants.{Good, Bad, Odd}
-use Rattle.script.specs.declared.lines.Trouble.the-variants as t
+use Rattle.verbs.specs.declared.trouble.Trouble.the-variants as t
+use Rattle.verbs.specs.Pieces.{nextIs}
+use Rattle.verbs.specs.Tokens.{wordFrom}
 use Rattle.script.specs.declared.lines.Action.{Action}
 use Rattle.script.specs.declared.lines.Action.the-variants as act
 use Rattle.script.specs.Lines.{padded, runAction, readTo, frameAction, framedAction, sealed, frameBytes, framedBytes}
-use Rattle.script.specs.Lines.{drawnAction, drawsBy, drawnDraws, Effect, effectBy, effectOf}
+use Rattle.script.specs.Lines.{endedAction, drawnAction, drawsBy, drawnDraws, Effect, effect, drawsEffect, effectBy, effectOf}
 
 -- ---- a check sum added
 module _ (number n : ℕ) (b : List ℕ) where
@@ -123,10 +125,34 @@ module _ (line : List ℕ) (rest : ℕ) (bytes : List ℕ) {r : HexRun} {b : Lis
         drawn-by (Good n) g refl
         (e ∙ ap (λ (m : ℕ). padded (length draws) (take m b)) (sub-zero n) ∙ ap (padded (length draws)) (front n g))
 
+-- ---- draws
+
+module _ (line : List ℕ) (rest : ℕ) (draws bytes : List ℕ) {t : Bool} (e : t ≡ nextIs line rest (114 ∷ 97 ∷ 110 ∷ 100 ∷ 111 ∷ 109 ∷ [])) where
+  abbrev defined : Effect
+  defined = drawsEffect line rest draws bytes
+
+  abbrev Draws : Effect → Action → List ℕ → List ℕ → Type 0
+  Draws x a d b = (a ≡ x .action) × ((d ≡ x .draws) × (b ≡ x .bytes))
+
+  taken-as : (x : Effect) {a : Action} {d b : List ℕ} → x ≡ defined → Draws x a d b → Draws defined a d b
+  taken-as x f h = (h .0 ∙ ap (λ (y : Effect). y .action) f, (h .1 .0 ∙ ap (λ (y : Effect). y .draws) f, h .1 .1 ∙ ap (λ (y : Effect). y .bytes) f))
+
+  pub draws-random : {a : Action} → t ≡ true → a ≡ endedAction line (wordFrom line rest .to) act.Random → Draws defined a draws bytes
+  unfolding drawsEffect
+  draws-random h k = taken-as (effect (endedAction line (wordFrom line rest .to) act.Random) draws bytes) (sym (if-true _ _ _ (sym e ∙ h))) (k, (refl, refl))
+
+  pub draws-hex : {a : Action} {d b : List ℕ} → t ≡ false
+      → (a ≡ drawnAction rest (drop rest line) (length bytes)) × ((d ≡ drawnDraws (drop rest line) (length bytes) draws) × (b ≡ readTo (drop rest line) bytes))
+      → Draws defined a d b
+  unfolding drawsEffect
+  draws-hex h k =
+      let u = drop rest line in
+      taken-as (effect (drawnAction rest u (length bytes)) (drawnDraws u (length bytes) draws) (readTo u bytes)) (sym (if-false _ _ _ (sym e ∙ h))) k
+
 -- ---- a line, by its first word x, which is w
 
 abbrev pub effectAt : List ℕ → List ℕ → List ℕ → FirstWord → Keyword → Effect
-effectAt line draws bytes x w = effectBy w (x .rest) (drop (x .rest) line) draws bytes
+effectAt line draws bytes x w = effectBy w line (x .rest) (drop (x .rest) line) draws bytes
 
 module _ (line draws bytes : List ℕ) {x : FirstWord} (e : x ≡ firstWord line) (w : Keyword) (h : x .word ≡ w) where
   by : effectAt line draws bytes x w ≡ effectOf line draws bytes

@@ -12,8 +12,8 @@ use Rattle.frame.specs.Number.{Bytes, bytesOf}
 use Rattle.frame.specs.CheckSum as frame
 use Rattle.frame.proofs.Puts.{sets-append}
 use Rattle.frame.proofs.Stores.{part-on}
-use Rattle.text.specs.Words.{isBlank, solid, lead, wordOf}
-use Rattle.text.specs.Hex.{hexText}
+use Rattle.text.specs.Words.{isBlank, solid, lead, lowered, wordOf}
+use Rattle.print.specs.Hex.{hexText}
 use Rattle.text.specs.Runs.{HexRead, hexOf}
 use Rattle.text.specs.declared.words.FirstWord.{FirstWord}
 use Rattle.text.specs.declared.hex.HexRun.the-variants as run
@@ -33,11 +33,12 @@ module _ (f draws bytes : List ℕ) (small : Bytes f) (fits : length f ≤ lengt
   read = text-read (length bytes) f small fits
 
   by-word : (c : ℕ) (s : List ℕ) → isBlank c ≡ false → (c ≡ 35 → ⊥) → lead solid (c ∷ s) ≡ length (c ∷ s)
-      → effectOf ((c ∷ s) ++ hexText f) draws bytes ≡ effectBy (wordOf (c ∷ s)) (length (c ∷ s)) (hexText f) draws bytes
+      → effectOf ((c ∷ s) ++ hexText f) draws bytes ≡ effectBy (wordOf (c ∷ s)) ((c ∷ s) ++ hexText f) (length (c ∷ s)) (hexText f) draws bytes
   unfolding effectOf
   by-word c s b h l =
-      ap (λ (x : FirstWord). effectBy (x .word) (x .rest) (drop (x .rest) ((c ∷ s) ++ hexText f)) draws bytes) (word-read c s (hexText f) b h l (parted f))
-      ∙ ap (λ (u : List ℕ). effectBy (wordOf (c ∷ s)) (length (c ∷ s)) u draws bytes) (drop-append-seam (c ∷ s) (hexText f))
+      ap (λ (x : FirstWord). effectBy (x .word) ((c ∷ s) ++ hexText f) (x .rest) (drop (x .rest) ((c ∷ s) ++ hexText f)) draws bytes)
+      (word-read c s (hexText f) b h l (parted f))
+      ∙ ap (λ (u : List ℕ). effectBy (wordOf (c ∷ s)) ((c ∷ s) ++ hexText f) (length (c ∷ s)) u draws bytes) (drop-append-seam (c ∷ s) (hexText f))
 
   framed : (number rest : ℕ) (whole : Bool)
       → effect (framedAction number whole rest (hexText f) (length bytes)) draws (framedBytes whole (hexText f) bytes)
@@ -49,11 +50,11 @@ module _ (f draws bytes : List ℕ) (small : Bytes f) (fits : length f ≤ lengt
 
   -- "label" and "chip"
   pub label-line : effectOf ((108 ∷ 97 ∷ 98 ∷ 101 ∷ 108 ∷ []) ++ hexText f) draws bytes ≡ effect (act.Play 3 (length f)) draws (sets bytes 0 f)
-  unfolding isBlank wordOf
+  unfolding isBlank lowered wordOf
   label-line = by-word 108 (97 ∷ 98 ∷ 101 ∷ 108 ∷ []) refl (λ q. omega arith) refl ∙ framed 3 5 true
 
   pub chip-line : effectOf ((99 ∷ 104 ∷ 105 ∷ 112 ∷ []) ++ hexText f) draws bytes ≡ effect (act.Play 5 (length f)) draws (sets bytes 0 f)
-  unfolding isBlank wordOf
+  unfolding isBlank lowered wordOf
   chip-line = by-word 99 (104 ∷ 105 ∷ 112 ∷ []) refl (λ q. omega arith) refl ∙ framed 5 4 true
 
   -- "label+" and "chip+": where there is room for the check sum
@@ -72,10 +73,10 @@ module _ (f draws bytes : List ℕ) (small : Bytes f) (fits : length f ≤ lengt
 
     pub label-sum-line : effectOf ((108 ∷ 97 ∷ 98 ∷ 101 ∷ 108 ∷ 43 ∷ []) ++ hexText f) draws bytes
         ≡ effect (act.Play 3 (length f + 2)) draws (sets bytes 0 (frame.framed f))
-    unfolding isBlank wordOf
+    unfolding isBlank lowered wordOf
     label-sum-line = by-word 108 (97 ∷ 98 ∷ 101 ∷ 108 ∷ 43 ∷ []) refl (λ q. omega arith) refl ∙ framed 3 6 false ∙ added 3
 
     pub chip-sum-line : effectOf ((99 ∷ 104 ∷ 105 ∷ 112 ∷ 43 ∷ []) ++ hexText f) draws bytes
         ≡ effect (act.Play 5 (length f + 2)) draws (sets bytes 0 (frame.framed f))
-    unfolding isBlank wordOf
+    unfolding isBlank lowered wordOf
     chip-sum-line = by-word 99 (104 ∷ 105 ∷ 112 ∷ 43 ∷ []) refl (λ q. omega arith) refl ∙ framed 5 5 false ∙ added 5

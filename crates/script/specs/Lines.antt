@@ -1,4 +1,4 @@
--- What an event line asks: its first word, and behind it hex, blanks or a comment. Assumes nothing.
+-- What an event line asks: its first word, and behind it hex, blanks or a comment; or a command. Assumes nothing.
 use mathlib.Core.Bool.{Bool, true, false}
 use mathlib.Core.List.{List, [], _∷_}
 use Prim.Native.Nat.{ℕ, zero, suc, _+_, _%_, _^_}
@@ -9,13 +9,18 @@ use Rattle.frame.specs.Choose.{if_then_else_}
 use Rattle.frame.specs.Number.{bytesOf}
 use Rattle.frame.specs.CheckSum.{crcOf}
 use Rattle.rack.specs.Event.{least, eventOf}
-use Rattle.text.specs.Words.{firstWord, bareText}
+use Rattle.text.specs.Words.{firstWord}
 use Rattle.text.specs.Runs.{hexOf}
 use Rattle.text.specs.declared.words.Keyword.{Keyword}
 use Rattle.text.specs.declared.words.Keyword.the-variants as w
 use Rattle.text.specs.declared.hex.HexRun.{HexRun}
 use Rattle.text.specs.declared.hex.HexRun.the-variants.{Good, Bad, Odd, Full}
-use Rattle.script.specs.declared.lines.Trouble.the-variants as t
+use Rattle.verbs.specs.declared.trouble.Trouble.the-variants as t
+use Rattle.verbs.specs.declared.trouble.What.the-variants as what
+use Rattle.verbs.specs.Tokens.{isEmpty, wordFrom}
+use Rattle.verbs.specs.Trouble.{columnOf}
+use Rattle.verbs.specs.Pieces.{nextIs}
+use Rattle.script.specs.Commands.{commandOf}
 use Rattle.script.specs.declared.lines.Action.{Action}
 use Rattle.script.specs.declared.lines.Action.the-variants as act
 
@@ -33,15 +38,17 @@ drawsFor n most = if ltb most n then most else n
 
 -- ---- what a word asks. `behind` is the text behind the word, which ends at place `rest`
 
--- an event with no frame: nothing may stand behind its word
-unfoldable pub bareAction : ℕ → List ℕ → Action
-bareAction number behind = if bareText behind then act.Play number 0 else act.Wrong t.Behind
+-- what must end at a place, with nothing behind it
+unfoldable pub endedAction : List ℕ → ℕ → Action → Action
+endedAction line at action =
+    let next = wordFrom line at in
+    if isEmpty next then action else act.Wrong (t.Expected (columnOf (next .from)) what.End)
 
 -- what is done with n bytes, or what is wrong with a run of hex; columns count from 1
 abbrev pub runAction : (ℕ → Action) → ℕ → HexRun → Action
 runAction done rest (Good n) = done n
-runAction done rest (Bad i) = act.Wrong (t.Bad (rest + i + 1))
-runAction done rest (Odd i) = act.Wrong (t.Odd (rest + i + 1))
+runAction done rest (Bad i) = act.Wrong (t.Expected (rest + i + 1) what.Digit)
+runAction done rest (Odd i) = act.Wrong (t.Expected (rest + i + 1) what.Pair)
 runAction done rest Full = act.Wrong t.Full
 
 -- the buffer with the bytes read at its front
@@ -96,21 +103,32 @@ effect action draws bytes = record { action = action; draws = draws; bytes = byt
 abbrev pub frameEffect : ℕ → Bool → ℕ → List ℕ → List ℕ → List ℕ → Effect
 frameEffect number whole rest behind draws bytes = effect (framedAction number whole rest behind (length bytes)) draws (framedBytes whole behind bytes)
 
-abbrev pub effectBy : Keyword → ℕ → List ℕ → List ℕ → List ℕ → Effect
-effectBy w.Empty rest behind draws bytes = effect act.Nothing draws bytes
-effectBy w.Comment rest behind draws bytes = effect act.Nothing draws bytes
-effectBy w.Off rest behind draws bytes = effect (bareAction 1 behind) draws bytes
-effectBy w.On rest behind draws bytes = effect (bareAction 2 behind) draws bytes
-effectBy w.Eof rest behind draws bytes = effect (bareAction 4 behind) draws bytes
-effectBy w.Label rest behind draws bytes = frameEffect 3 true rest behind draws bytes
-effectBy w.LabelSeal rest behind draws bytes = frameEffect 3 false rest behind draws bytes
-effectBy w.Chip rest behind draws bytes = frameEffect 5 true rest behind draws bytes
-effectBy w.ChipSeal rest behind draws bytes = frameEffect 5 false rest behind draws bytes
-effectBy w.Draws rest behind draws bytes = effect (drawnAction rest behind (length bytes)) (drawnDraws behind (length bytes) draws) (readTo behind bytes)
-effectBy w.Unknown rest behind draws bytes = effect (act.Wrong t.Unknown) draws bytes
+-- draws, or `random`
+unfoldable pub drawsEffect : List ℕ → ℕ → List ℕ → List ℕ → Effect
+drawsEffect line rest draws bytes =
+    let behind = drop rest line in
+    if nextIs line rest (114 ∷ 97 ∷ 110 ∷ 100 ∷ 111 ∷ 109 ∷ []) then effect (endedAction line (wordFrom line rest .to) act.Random) draws bytes
+    else effect (drawnAction rest behind (length bytes)) (drawnDraws behind (length bytes) draws) (readTo behind bytes)
+
+-- what is no event's word is a command's
+abbrev pub commandEffect : List ℕ → List ℕ → List ℕ → Effect
+commandEffect line draws bytes = let x = commandOf line bytes in effect (x .action) draws (x .bytes)
+
+abbrev pub effectBy : Keyword → List ℕ → ℕ → List ℕ → List ℕ → List ℕ → Effect
+effectBy w.Empty line rest behind draws bytes = effect act.Nothing draws bytes
+effectBy w.Comment line rest behind draws bytes = effect act.Nothing draws bytes
+effectBy w.Off line rest behind draws bytes = effect (endedAction line rest (act.Play 1 0)) draws bytes
+effectBy w.On line rest behind draws bytes = effect (endedAction line rest (act.Play 2 0)) draws bytes
+effectBy w.Eof line rest behind draws bytes = effect (endedAction line rest (act.Play 4 0)) draws bytes
+effectBy w.Label line rest behind draws bytes = frameEffect 3 true rest behind draws bytes
+effectBy w.LabelSeal line rest behind draws bytes = frameEffect 3 false rest behind draws bytes
+effectBy w.Chip line rest behind draws bytes = frameEffect 5 true rest behind draws bytes
+effectBy w.ChipSeal line rest behind draws bytes = frameEffect 5 false rest behind draws bytes
+effectBy w.Draws line rest behind draws bytes = drawsEffect line rest draws bytes
+effectBy w.Unknown line rest behind draws bytes = commandEffect line draws bytes
 
 unfoldable pub effectOf : List ℕ → List ℕ → List ℕ → Effect
-effectOf line draws bytes = effectBy (firstWord line .word) (firstWord line .rest) (drop (firstWord line .rest) line) draws bytes
+effectOf line draws bytes = effectBy (firstWord line .word) line (firstWord line .rest) (drop (firstWord line .rest) line) draws bytes
 
 -- the rack that an event leaves
 unfoldable pub eventRack : List ℕ → ℕ → List ℕ → List ℕ → List ℕ
@@ -120,6 +138,7 @@ eventRack tags number frame draws = eventOf tags number frame (take (drawsFor (g
 abbrev pub rackBy : Action → List ℕ → List ℕ → List ℕ → List ℕ
 rackBy act.Nothing draws bytes tags = tags
 rackBy (act.Play number n) draws bytes tags = eventRack tags number (take n bytes) draws
+rackBy act.Random draws bytes tags = tags
 rackBy (act.Wrong trouble) draws bytes tags = tags
 
 unfoldable pub lineRack : List ℕ → List ℕ → List ℕ → List ℕ → List ℕ
@@ -131,4 +150,5 @@ lineRack line draws bytes tags =
 abbrev pub eventsBy : Action → ℕ → ℕ
 eventsBy act.Nothing events = events
 eventsBy (act.Play number n) events = (events + 1) % 2 ^ 64
+eventsBy act.Random events = events
 eventsBy (act.Wrong trouble) events = events

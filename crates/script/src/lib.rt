@@ -1,4 +1,4 @@
-// Events as lines of text: what a line asks, and how the reply to an event is written.
+// Events as lines of text: what a line asks.
+pub mod commands;
 pub mod draws;
 pub mod lines;
-pub mod replies;

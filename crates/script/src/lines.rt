@@ -1,29 +1,22 @@
 // What an event line asks.
+use crate::commands::commanded;
 use crate::draws::set_draws;
 use frame::check_sum::seal;
 use text::hex::HexRun;
 use text::hex::read_bytes;
 use text::words::Keyword;
 use text::words::first_word;
-use text::words::is_blank_rest;
+use verbs::pieces::next_is;
+use verbs::tokens::is_empty;
+use verbs::tokens::word_from;
+use verbs::trouble::Trouble;
+use verbs::trouble::What;
+use verbs::trouble::expected;
 ghost use mathlib.Core.Path.{_≡_};
 ghost use mathlib.Core.Bool.{false};
 ghost use Prim.Native.Nat.{_+_, _^_, _≤_, _<_};
 ghost use lib.ListN.{length, drop};
-ghost use Rattle.script.specs.Lines.{bareAction, frameAction, framedAction, sealed, framedBytes, drawnAction, drawnDraws, readTo, effectOf};
-
-// What is wrong with a line.
-pub enum Trouble {
-    // Its first word is none of the words.
-    Unknown,
-    // Something stands behind a word that takes nothing.
-    Behind,
-    // A byte that is no hex digit, or a digit that stands alone, in a column counted from 1.
-    Bad(u64),
-    Odd(u64),
-    // More bytes than there is room for.
-    Full,
-}
+ghost use Rattle.script.specs.Lines.{endedAction, frameAction, framedAction, sealed, framedBytes, drawnAction, drawnDraws, readTo, drawsEffect, effectOf};
 
 // What a line asks to be done.
 pub enum Action {
@@ -31,6 +24,8 @@ pub enum Action {
     Nothing,
     // An event: its number, and how many bytes its frame has.
     Play(u8, usize),
+    // Draws from the system.
+    Random,
     Wrong(Trouble),
 }
 
@@ -42,14 +37,15 @@ fn column(rest: usize, place: usize) -> u64
     (rest + place + 1) as u64
 }
 
-// An event with no frame.
-fn bare(line: &[u8], rest: usize, number: u8) -> Action
-    ensures { λ r. ⌜ r ≡ bareAction number (drop rest (now (line .entry))) ⌝ }
+// What a line asks that must end at a place.
+fn ended(line: &[u8], at: usize, action: Action) -> Action
+    ensures { λ r. ⌜ r ≡ endedAction (now (line .entry)) at action ⌝ }
 {
-    if is_blank_rest(line, rest) {
-        return Action::Play(number, 0);
+    let w = word_from(line, at);
+    if is_empty(w) {
+        return action;
     }
-    Action::Wrong(Trouble::Behind)
+    Action::Wrong(expected(w.from, What::End))
 }
 
 // An event with the first n of the bytes and their check sum.
@@ -81,8 +77,8 @@ fn framed(line: &[u8], rest: usize, number: u8, whole: bool, bytes: &mut [u8]) -
             }
             summed(number, bytes, n)
         }
-        HexRun::Bad(i) => Action::Wrong(Trouble::Bad(column(rest, i))),
-        HexRun::Odd(i) => Action::Wrong(Trouble::Odd(column(rest, i))),
+        HexRun::Bad(i) => { Action::Wrong(Trouble::Expected(column(rest, i), What::Digit)) },
+        HexRun::Odd(i) => { Action::Wrong(Trouble::Expected(column(rest, i), What::Pair)) },
         HexRun::Full => Action::Wrong(Trouble::Full),
     }
 }
@@ -100,10 +96,24 @@ fn drawn(line: &[u8], rest: usize, draws: &mut [u8], bytes: &mut [u8]) -> Action
             set_draws(draws, &bytes[0..n]);
             Action::Nothing
         }
-        HexRun::Bad(i) => Action::Wrong(Trouble::Bad(column(rest, i))),
-        HexRun::Odd(i) => Action::Wrong(Trouble::Odd(column(rest, i))),
+        HexRun::Bad(i) => { Action::Wrong(Trouble::Expected(column(rest, i), What::Digit)) },
+        HexRun::Odd(i) => { Action::Wrong(Trouble::Expected(column(rest, i), What::Pair)) },
         HexRun::Full => Action::Wrong(Trouble::Full),
     }
+}
+
+// Draws for what follows, or `random`.
+fn drawn_or_random(line: &[u8], rest: usize, draws: &mut [u8], bytes: &mut [u8]) -> Action
+    requires { ⌜ rest ≤ length (now line) ⌝ }
+    ensures { λ r. ⌜ r ≡ drawsEffect (now (line .entry)) rest (now (draws .entry)) (now (bytes .entry)) .action ⌝ }
+    ensures { λ r. ⌜ now (draws .exit) ≡ drawsEffect (now (line .entry)) rest (now (draws .entry)) (now (bytes .entry)) .draws ⌝ }
+    ensures { λ r. ⌜ now (bytes .exit) ≡ drawsEffect (now (line .entry)) rest (now (draws .entry)) (now (bytes .entry)) .bytes ⌝ }
+{
+    if next_is(line, rest, b"random") {
+        let w = word_from(line, rest);
+        return ended(line, w.to, Action::Random);
+    }
+    drawn(line, rest, draws, bytes)
 }
 
 // What a line asks; the bytes behind its word go to the front of a buffer. A line of draws sets them.
@@ -118,14 +128,14 @@ pub fn action_of(line: &[u8], draws: &mut [u8], bytes: &mut [u8]) -> Action
     match word {
         Keyword::Empty => Action::Nothing,
         Keyword::Comment => Action::Nothing,
-        Keyword::Off => bare(line, rest, 1),
-        Keyword::On => bare(line, rest, 2),
-        Keyword::Eof => bare(line, rest, 4),
+        Keyword::Off => ended(line, rest, Action::Play(1, 0)),
+        Keyword::On => ended(line, rest, Action::Play(2, 0)),
+        Keyword::Eof => ended(line, rest, Action::Play(4, 0)),
         Keyword::Label => framed(line, rest, 3, true, bytes),
         Keyword::LabelSeal => framed(line, rest, 3, false, bytes),
         Keyword::Chip => framed(line, rest, 5, true, bytes),
         Keyword::ChipSeal => framed(line, rest, 5, false, bytes),
-        Keyword::Draws => drawn(line, rest, draws, bytes),
-        Keyword::Unknown => Action::Wrong(Trouble::Unknown),
+        Keyword::Draws => drawn_or_random(line, rest, draws, bytes),
+        Keyword::Unknown => commanded(line, bytes),
     }
 }

@@ -5,7 +5,8 @@ use mathlib.Core.Path.{refl, ap}
 use native.Mathlib.Omega.{arith}
 use Prim.Native.Nat.{ℕ}
 use Rattle.text.specs.declared.hex.HexRun.the-variants as run
-use Rattle.script.specs.declared.lines.Trouble.the-variants as t
+use Rattle.verbs.specs.declared.trouble.Trouble.the-variants as t
+use Rattle.verbs.specs.declared.trouble.What.the-variants as what
 use Rattle.script.specs.declared.lines.Action.the-variants as act
 use Rattle.script.proofs.LinesActions.{read-inside, column-bad, column-odd, drawn-by, drawn-set}
 use Rattle.script.proofs.lines.drawn.Statement.{statement}
@@ -49,7 +50,7 @@ returns-2 c =
     let o = k .before .before .before .before in
     let a = start o .args in
     drawn-by (now (a .line)) (a .rest) (now (a .bytes)) (o .read-bytes .ensures) (now (a .draws)) (run.Bad _) (k .run2 .given .1)
-    (ap (λ (x : ℕ). act.Wrong (t.Bad x)) (c .column .ensures)) refl
+    (ap (λ (x : ℕ). act.Wrong (t.Expected x what.Digit)) (c .column .ensures)) refl
 
 returns-3 : tie.Need-returns-3
 returns-3 c =
@@ -57,7 +58,7 @@ returns-3 c =
     let o = k .before .before .before .before in
     let a = start o .args in
     drawn-by (now (a .line)) (a .rest) (now (a .bytes)) (o .read-bytes .ensures) (now (a .draws)) (run.Odd _) (k .run3 .given .1)
-    (ap (λ (x : ℕ). act.Wrong (t.Odd x)) (c .column2 .ensures)) refl
+    (ap (λ (x : ℕ). act.Wrong (t.Expected x what.Pair)) (c .column2 .ensures)) refl
 
 returns-4 : tie.Need-returns-4
 returns-4 c =
