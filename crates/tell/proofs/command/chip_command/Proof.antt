@@ -1,0 +1,36 @@
+-- Each way out is a law of CommandWays; the search finds it, and its premises among the facts. Assumes nothing.
+use borrow.Author.Needs.{needs}
+use Rattle.tell.specs.Commands.{chipCommand}
+use Rattle.tell.proofs.CommandWays.{ways}
+use Rattle.tell.proofs.command.chip_command.Statement.{statement}
+use Rattle.tell.proofs.command.chip_command.Tie as tie
+
+pub chip-command-spec : {M : Type 1} → statement M
+unfolding chipCommand
+chip-command-spec =
+    tie.close
+    (tie.spec
+    (λ c. search needs)
+    (λ c. search needs)
+    (λ c. search needs)
+    (λ c. search needs)
+    (λ c. search needs)
+    (λ c. search needs)
+    (λ c. search needs)
+    (λ c. search needs)
+    (λ c. search needs)
+    (λ c. search needs)
+    (λ c. search needs)
+    (λ c. search needs)
+    (λ c. search ways)
+    (λ c. search ways)
+    (λ c. search ways)
+    (λ c. search ways)
+    (λ c. search ways)
+    (λ c. search ways)
+    (λ c. search ways)
+    (λ c. search ways)
+    (λ c. search ways)
+    (λ c. search ways)
+    (λ c. search ways)
+    (λ c. search ways))

@@ -1,0 +1,30 @@
+-- Each way out is a law of LineWays, or its tests compute the text. Assumes nothing.
+use borrow.Author.Needs.{needs}
+use Rattle.tell.specs.Lines.{replyText}
+use Rattle.tell.proofs.LineWays.{ways}
+use Rattle.tell.proofs.line.put_reply.Statement.{statement}
+use Rattle.tell.proofs.line.put_reply.Tie as tie
+
+pub put-reply-spec : {M : Type 1} → statement M
+unfolding replyText
+put-reply-spec =
+    tie.close
+    (tie.spec
+    (λ c. search needs)
+    (λ c. search needs)
+    (λ c κs. search needs)
+    (λ c. search needs)
+    (λ c. search ways)
+    (λ c. search needs)
+    (λ c κs. search needs)
+    (λ c. search needs)
+    (λ c. search ways)
+    (λ c κs. search needs)
+    (λ c κs. search needs)
+    (λ c. search needs)
+    (λ c. search ways)
+    (λ c. search needs)
+    (λ c. search needs)
+    (λ c κs. search needs)
+    (λ c. search needs)
+    (λ c. search ways))

@@ -1,0 +1,22 @@
+-- An arm of the match is the text at that case. Assumes nothing.
+use borrow.Author.Needs.{needs}
+use Rattle.tell.specs.Names.{familyText}
+use Rattle.tell.proofs.Arms.{arms}
+use Rattle.tell.proofs.name.put_family.Statement.{statement}
+use Rattle.tell.proofs.name.put_family.Tie as tie
+
+pub put-family-spec : {M : Type 1} → statement M
+unfolding familyText
+put-family-spec =
+    tie.close
+    (tie.spec
+    (λ c. search needs)
+    (λ c. search needs)
+    (λ c κs. search needs)
+    (λ c. search needs)
+    (λ c. search needs)
+    (λ c κs. search needs)
+    (λ c. search needs)
+    (λ c. search arms)
+    (λ c. search needs)
+    (λ c. search arms))

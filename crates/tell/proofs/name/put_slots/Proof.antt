@@ -1,0 +1,20 @@
+-- A way out is the text at that case. Assumes nothing.
+use borrow.Author.Needs.{needs}
+use Rattle.tell.specs.Names.{slotsText}
+use Rattle.tell.proofs.Arms.{arms}
+use Rattle.tell.proofs.name.put_slots.Statement.{statement}
+use Rattle.tell.proofs.name.put_slots.Tie as tie
+
+pub put-slots-spec : {M : Type 1} → statement M
+unfolding slotsText
+put-slots-spec =
+    tie.close
+    (tie.spec
+    (λ c. search needs)
+    (λ c κs. search needs)
+    (λ c. search needs)
+    (λ c. search arms)
+    (λ c. search needs)
+    (λ c κs. search needs)
+    (λ c. search needs)
+    (λ c. search arms))

@@ -1,0 +1,66 @@
+-- An arm of the match is the text at that case. Assumes nothing.
+use borrow.Author.Needs.{needs}
+use Rattle.tell.specs.Names.{taskText}
+use Rattle.tell.proofs.Arms.{arms}
+use Rattle.tell.proofs.name.put_task.Statement.{statement}
+use Rattle.tell.proofs.name.put_task.Tie as tie
+
+pub put-task-spec : {M : Type 1} → statement M
+unfolding taskText
+put-task-spec =
+    tie.close
+    (tie.spec
+    (λ c. search needs)
+    (λ c. search needs)
+    (λ c κs. search needs)
+    (λ c. search needs)
+    (λ c κs. search needs)
+    (λ c. search needs)
+    (λ c. search needs)
+    (λ c κs. search needs)
+    (λ c. search needs)
+    (λ c. search needs)
+    (λ c κs. search needs)
+    (λ c. search needs)
+    (λ c. search needs)
+    (λ c κs. search needs)
+    (λ c. search needs)
+    (λ c. search needs)
+    (λ c κs. search needs)
+    (λ c. search needs)
+    (λ c. search needs)
+    (λ c κs. search needs)
+    (λ c. search needs)
+    (λ c. search needs)
+    (λ c κs. search needs)
+    (λ c. search needs)
+    (λ c. search needs)
+    (λ c κs. search needs)
+    (λ c. search needs)
+    (λ c. search needs)
+    (λ c κs. search needs)
+    (λ c. search needs)
+    (λ c. search needs)
+    (λ c κs. search needs)
+    (λ c. search needs)
+    (λ c. search arms)
+    (λ c. search needs)
+    (λ c. search arms)
+    (λ c. search needs)
+    (λ c. search arms)
+    (λ c. search needs)
+    (λ c. search arms)
+    (λ c. search needs)
+    (λ c. search arms)
+    (λ c. search needs)
+    (λ c. search arms)
+    (λ c. search needs)
+    (λ c. search arms)
+    (λ c. search needs)
+    (λ c. search arms)
+    (λ c. search needs)
+    (λ c. search arms)
+    (λ c. search needs)
+    (λ c. search arms)
+    (λ c. search needs)
+    (λ c. search arms))

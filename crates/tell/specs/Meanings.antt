@@ -1,0 +1,97 @@
+-- What an answer means, in words. Assumes nothing.
+use mathlib.Core.Bool.{Bool, true, false}
+use mathlib.Core.List.{List, _++_}
+use Prim.Native.Nat.{ℕ, _+_}
+use lib.Dec.{eqb}
+use Rattle.frame.specs.Choose.{if_then_else_}
+use Rattle.frame.specs.Number.{bytesOf, part}
+use Rattle.print.specs.Ascii.{ascii}
+use Rattle.print.specs.Decimal.{decimalText}
+use Rattle.print.specs.Hex.{uidText}
+use Rattle.print.specs.Named.{wordByte, wordNumber}
+use Rattle.print.specs.Quote.{printable, quotedText}
+use Rattle.request.specs.Table.{rowOf}
+use Rattle.request.specs.declared.signal.Signal.{Signal}
+use Rattle.reader.specs.declared.command.Command.{Command}
+use Rattle.reader.specs.declared.command.Command.the-variants.{Inventory, Label, Chip, Other}
+use Rattle.reader.specs.declared.answer.Meaning.{Meaning}
+use Rattle.reader.specs.declared.answer.Meaning.the-variants as m
+use Rattle.reader.specs.declared.answer.Reading.{Reading}
+use Rattle.tell.specs.Commands.{commandOf, readingFor}
+
+-- whether a command writes a block of a label
+unfoldable pub writesBlock : Command → Bool
+writesBlock (Inventory to option family sixteen bits mask) = false
+writesBlock (Label to option task p) = rowOf task .block
+writesBlock (Chip to option task) = false
+writesBlock (Other kind code) = false
+
+-- ---- errors
+
+-- error 12: of a block that is written, or of anything else
+unfoldable pub deniedWords : Bool → List ℕ
+deniedWords true = ascii ": block is locked"
+deniedWords false = ascii ": locked"
+
+unfoldable pub errorWords : Bool → ℕ → List ℕ
+errorWords writes code =
+    if eqb code 0x01 then ascii ": no such command"
+    else if eqb code 0x02 then ascii ": wrong length"
+    else if eqb code 0x03 then ascii ": Option not allowed"
+    else if eqb code 0x10 then ascii ": no such block"
+    else if eqb code 0x11 then ascii ": already locked"
+    else if eqb code 0x12 then deniedWords writes
+    else ascii ""
+
+unfoldable pub errorText : Bool → ℕ → List ℕ
+errorText writes code = wordByte (ascii "error ") code ++ errorWords writes code
+
+-- ---- blocks
+
+-- bytes as text behind a lead, where every byte shows; else nothing
+unfoldable pub shownText : List ℕ → List ℕ → List ℕ
+shownText lead s = if printable s then lead ++ quotedText s else ascii ""
+
+unfoldable pub lockText : ℕ → List ℕ
+lockText lock = if eqb lock 0 then ascii "not locked" else ascii "locked"
+
+unfoldable pub lockBlockText : ℕ → List ℕ → List ℕ
+lockBlockText lock s = lockText lock ++ shownText (ascii ", ") s
+
+-- a chip's block
+unfoldable pub wordText : ℕ → List ℕ
+wordText w = decimalText w ++ shownText (ascii ", ") (bytesOf 4 w)
+
+-- ---- who a label is
+
+unfoldable pub foundText : List ℕ → ℕ → List ℕ
+foundText uid dsfid = uidText uid ++ wordByte (ascii ", DSFID ") dsfid
+
+-- both are told less 1
+unfoldable pub sizesText : ℕ → ℕ → List ℕ
+sizesText blocks size = wordNumber (ascii ", ") (blocks + 1) ++ wordNumber (ascii " blocks of ") (size + 1)
+
+unfoldable pub infoText : List ℕ → ℕ → ℕ → ℕ → ℕ → ℕ → List ℕ
+infoText uid dsfid afi blocks size ic =
+    foundText uid dsfid ++ (wordByte (ascii ", AFI ") afi ++ (sizesText blocks size ++ wordByte (ascii ", IC ") ic))
+
+-- ---- any meaning; f is the frame that was read
+
+unfoldable pub meantText : Bool → Meaning → List ℕ → List ℕ → List ℕ
+meantText writes (m.Refused n) uid f = ascii "not an answer to this"
+meantText writes (m.Error code) uid f = errorText writes code
+meantText writes m.Done uid f = ascii "done"
+meantText writes (m.Found dsfid) uid f = foundText uid dsfid
+meantText writes (m.Block place long) uid f = shownText (ascii "") (part place long f)
+meantText writes (m.LockAndBlock lock place long) uid f = lockBlockText lock (part place long f)
+meantText writes (m.Info dsfid afi blocks size ic) uid f = infoText uid dsfid afi blocks size ic
+meantText writes (m.Id id) uid f = wordByte (ascii "Chip_ID ") id
+meantText writes (m.Word word) uid f = wordText word
+meantText writes m.Uid uid f = uidText uid
+
+unfoldable pub meaningText : Command → Reading → List ℕ → List ℕ
+meaningText command reading f = meantText (writesBlock command) (reading .meaning) (reading .uid) f
+
+-- the frame f as an answer to event `number`
+unfoldable pub answerText : ℕ → Signal → List ℕ → List ℕ
+answerText number signal f = meaningText (commandOf number signal) (readingFor number signal f) f

@@ -1,0 +1,8 @@
+-- What the contracts cite.
+pub mod Question
+pub mod Reason
+pub mod Words
+pub mod Change
+pub mod Labels
+pub mod Chips
+pub mod Changes
