@@ -1,2 +1,3 @@
--- The laws of one turn.
+-- The laws of what is said of an event, and of one turn.
+pub mod ToldLaid
 pub mod TurnsBy

@@ -1,26 +1,43 @@
 -- What the program play makes of one answer of `next`. Assumes nothing.
-use mathlib.Core.List.{List}
-use Prim.Native.Nat.{ℕ, _+_, _%_, _^_}
-use Rattle.script.specs.Lines.{effectOf, lineRack, eventsBy}
+use mathlib.Core.Path.{_≡_}
+use mathlib.Core.List.{List, _++_}
+use Prim.Native.Nat.{ℕ}
+use Rattle.print.specs.Ascii.{ascii}
+use Rattle.print.specs.Decimal.{decimalText}
+use Rattle.print.specs.Hex.{hexText}
+use Rattle.print.specs.Named.{wordNumber}
+use Rattle.verbs.specs.declared.trouble.Trouble.{Trouble}
+use Rattle.verbs.specs.Trouble.{troubleText}
+use Rattle.script.specs.declared.lines.Action.{Action}
+use Rattle.script.specs.declared.lines.Action.the-variants as act
+use Rattle.script.specs.Lines.{Effect, effectOf, lineRack}
 use Rattle.text.specs.declared.lines.Reached.{Reached}
 use Rattle.text.specs.declared.lines.Reached.the-variants.{Line, Long, End}
-use Rattle.play.specs.declared.Tally.{Tally}
 
--- how many lines and events there were, the rack left, the draws from now on, and the buffer that bytes go to
-pub record Turn : Type 0 where
-  pub tally : Tally
-  pub tags : List ℕ
-  pub draws : List ℕ
-  pub bytes : List ℕ
+-- line n cannot be read; it is too long
+unfoldable pub wrongText : ℕ → Trouble → List ℕ
+wrongText n trouble = wordNumber (ascii "line ") n ++ (ascii ": " ++ (troubleText trouble ++ ascii "\n"))
 
--- lines count modulo 2 ^ 64
-abbrev pub oneMore : Tally → ℕ → Tally
-oneMore t events = record { lines = (t .lines + 1) % 2 ^ 64; events = events }
+unfoldable pub longText : ℕ → List ℕ
+longText n = wordNumber (ascii "line ") n ++ ascii ": too long\n"
 
--- a line is played, one that is too long is counted, and the end changes nothing
-abbrev pub turnBy : Reached → List ℕ → Tally → List ℕ → List ℕ → List ℕ → Turn
-turnBy Line line t tags draws bytes =
-    let x = effectOf line draws bytes in
-    record { tally = oneMore t (eventsBy (x .action) (t .events)); tags = lineRack line draws bytes tags; draws = x .draws; bytes = x .bytes }
-turnBy Long line t tags draws bytes = record { tally = oneMore t (t .events); tags = tags; draws = draws; bytes = bytes }
-turnBy End line t tags draws bytes = record { tally = t; tags = tags; draws = draws; bytes = bytes }
+-- draws as a line that asks for them again
+unfoldable pub drawsText : ℕ → List ℕ → List ℕ
+drawsText n draws = decimalText n ++ (ascii " draws" ++ (hexText draws ++ ascii "\n"))
+
+-- the system's draws may be any; other lines leave those that they ask for
+abbrev pub DrawsBy : Action → List ℕ → List ℕ → Type 0
+DrawsBy act.Nothing draws left = left ≡ draws
+DrawsBy (act.Play number long) draws left = left ≡ draws
+DrawsBy act.Random draws left = Unit
+DrawsBy (act.Wrong trouble) draws left = left ≡ draws
+
+unfoldable pub DrawsLeft : Effect → List ℕ → Type 0
+DrawsLeft x left = DrawsBy (x .action) (x .draws) left
+
+-- what a turn leaves: the rack, the draws, and the buffer that bytes go to. A line is played; one that is too long and the end change nothing
+abbrev pub Turned : Reached → List ℕ → List ℕ → List ℕ → List ℕ → List ℕ → List ℕ → List ℕ → Type 0
+Turned Line line tags draws bytes tags₁ draws₁ bytes₁ =
+    (tags₁ ≡ lineRack line draws bytes tags) × (DrawsLeft (effectOf line draws bytes) draws₁ × (bytes₁ ≡ effectOf line draws bytes .bytes))
+Turned Long line tags draws bytes tags₁ draws₁ bytes₁ = (tags₁ ≡ tags) × ((draws₁ ≡ draws) × (bytes₁ ≡ bytes))
+Turned End line tags draws bytes tags₁ draws₁ bytes₁ = (tags₁ ≡ tags) × ((draws₁ ≡ draws) × (bytes₁ ≡ bytes))

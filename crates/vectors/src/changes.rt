@@ -1,8 +1,8 @@
 // What an event changed in a rack, byte by byte: the tag, the place in its body, the old value and the new one.
 use frame::number::byte_at;
+use print::say::say_byte;
+use print::say::say_number;
 use rack::file::entry_of;
-use text::hex::say_byte;
-use text::print::say_number;
 
 fn print_change(tag: usize, place: usize, old: u8, new: u8) {
     say_number(b" ", tag as u64);

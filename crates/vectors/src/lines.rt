@@ -18,20 +18,20 @@
 use crate::changes::print_changes;
 use crate::racks;
 use crate::readers;
+use crate::replies::play_event;
+use crate::replies::print_trouble;
 use crate::sums;
 use frame::number::byte_at;
 use libc::STDIN_FILENO;
+use print::say::say;
 use script::lines::Action;
 use script::lines::action_of;
-use script::replies::play_event;
-use script::replies::print_trouble;
 use text::hex::HexRun;
 use text::hex::read_bytes;
 use text::lines::Reached;
 use text::lines::is_end;
 use text::lines::next;
 use text::lines::source_of;
-use text::print::say;
 use text::words::first_word;
 ghost use Prim.Native.Nat.{_≤_};
 ghost use lib.ListN.{length};
@@ -86,9 +86,10 @@ fn play_line(line: &[u8], tags: &mut [u8], draws: &mut [u8]) {
     match action {
         Action::Nothing => {}
         Action::Play(number, n) => {
-            say(b" -> ");
+            say(b" ->");
             play_event(tags, number, &bytes[0..n], draws);
         }
+        Action::Random => {}
         Action::Wrong(trouble) => {
             say(b" -> ");
             print_trouble(trouble);

@@ -4,8 +4,15 @@ mod lines;
 mod meanings;
 mod racks;
 mod readers;
+mod replies;
 mod sums;
 
+use libc::STDERR_FILENO;
+
 fn main() {
+    if 1 < os::arg_count() {
+        io::write_all(STDERR_FILENO, b"usage: vectors\n");
+        return;
+    }
     lines::run();
 }

@@ -3,12 +3,12 @@ use frame::number::byte_at;
 use frame::uid::uid_at;
 use inventory::walk::Walked;
 use inventory::walk::walk;
+use print::say::print_uid;
+use print::say::say;
+use print::say::say_number;
 use rack::event::Report;
 use rack::event::event;
 use request::label::Family;
-use text::hex::print_uid;
-use text::print::say;
-use text::print::say_number;
 
 // Says so where a buffer has not the byte EE everywhere.
 fn stays(out: &[u8]) {

@@ -5,9 +5,9 @@ use frame::number::number_at;
 use frame::put::put_bytes;
 use frame::uid;
 use frame::uid::uid_at;
-use text::hex::print_bytes;
-use text::hex::say_byte;
-use text::print::say;
+use print::say::print_bytes;
+use print::say::say;
+use print::say::say_byte;
 ghost use Prim.Native.Nat.{_≤_};
 ghost use lib.ListN.{length};
 

@@ -2,7 +2,7 @@
 use mathlib.Core.Path.{_≡_, ap, ap₂, _∙_}
 use mathlib.Core.Logic.{⊎-elim}
 use mathlib.Core.List.{List}
-use Prim.Native.Nat.{ℕ, _*_, _≤_}
+use Prim.Native.Nat.{ℕ, _+_, _*_, _^_, _≤_, _<_}
 use native.Mathlib.Omega.{arith}
 use lib.ListN.{length, replicate}
 use lib.Seq.{sets}
@@ -13,7 +13,10 @@ use Rattle.inventory.specs.Walk.{refusalOf, walkOf}
 use Rattle.inventory.specs.Promise.{Promise}
 use Rattle.inventory.proofs.Promise.{accepted, walk-carried, walk-refused}
 use Rattle.inventory.proofs.WalkUids.{uids-few}
+use Rattle.print.specs.Puts.{Puts}
+use Rattle.print.proofs.Puts.{puts-whole, puts-length, puts-inside}
 use Rattle.walk.specs.WalkText.{walkText, printed}
+use Rattle.walk.proofs.WalkTextPuts.{walk-short}
 
 pub few-labels : {r r₁ list list₁ : List ℕ} (w : Walked) → w ≡ walkOf r Any list .report → (w .number ≡ 0 → Promise Any r r₁ list list₁ w)
     → 8 * w .labels ≤ length list
@@ -27,12 +30,18 @@ few-labels {r} {r₁} {list} {list₁} w e f =
     (λ z. let n : w .labels ≡ 0 = ap (λ (x : Walked). x .labels) (e ∙ ap (λ x. x .report) (walk-refused r Any list z)) in omega arith)
     (same-or-not (refusalOf r (length list)) 0)
 
--- the text of the walk's report and list is what is printed of the rack
+-- the text of the walk's report and list is what is printed of the rack, and there is room for all of it
 pub printed-all : (rack out : List ℕ) {w : Walked} {list : List ℕ} {n : ℕ} {fin : List ℕ} → w ≡ walkOf rack Any (replicate 512 0) .report
-    → list ≡ walkOf rack Any (replicate 512 0) .list
-    → (n ≡ length (walkText w list)) × ((fin ≡ sets out 0 (walkText w list)) × (n ≤ length fin))
+    → list ≡ walkOf rack Any (replicate 512 0) .list → w .number < 256 → w .rounds < 2 ^ 64 → 8 * w .labels ≤ 512 → length list ≡ 512 → 1117 ≤ length out
+    → Puts (walkText w list) 0 out fin n
     → (n ≡ length (printed rack)) × ((fin ≡ sets out 0 (printed rack)) × (n ≤ length fin))
 unfolding printed
-printed-all rack out {w} {list} e f k =
+printed-all rack out {w} {list} {n} {fin} e f a b l m o p =
     let t : walkText w list ≡ walkText (walkOf rack Any (replicate 512 0) .report) (walkOf rack Any (replicate 512 0) .list) = ap₂ walkText e f in
-    (k .0 ∙ ap length t, (k .1 .0 ∙ ap (sets out 0) t, k .1 .1))
+    let s = walk-short w list a b (omega arith) in
+    let h : 0 + length (walkText w list) ≤ length out = omega arith in
+    let k = puts-whole p h in
+    let z : n ≡ length (walkText w list) = omega (arith, k .0) in
+    let y = puts-length p in
+    let x = puts-inside p in
+    (z ∙ ap length t, (k .1 ∙ ap (sets out 0) t, omega arith))

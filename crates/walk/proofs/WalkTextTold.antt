@@ -19,12 +19,13 @@ use Rattle.inventory.proofs.Promise.{accepted, done, own, walk-carried, walk-re
 use Rattle.inventory.proofs.PromiseFlat.{flat-length}
 use Rattle.inventory.proofs.WalkUids.{uids-few}
 use Rattle.inventory.proofs.WalkEvents.{Fine}
-use Rattle.text.specs.Decimal.{numberLine}
-use Rattle.text.specs.Hex.{uidText}
+use Rattle.print.specs.Ascii.{ascii}
+use Rattle.print.specs.Decimal.{numberLine}
+use Rattle.print.specs.Hex.{uidText}
 use Rattle.text.specs.Runs.{hexOf}
 use Rattle.text.specs.declared.hex.HexRun.the-variants.{Good}
 use Rattle.text.proofs.RunsBack.{uid-read}
-use Rattle.walk.specs.WalkText.{uidLines, roundsWord, refusedWord, walkText, printed}
+use Rattle.walk.specs.WalkText.{uidLines, walkText, printed}
 
 -- UIDs as numbers, a line each
 abbrev pub linesOf : List ℕ → List ℕ
@@ -35,7 +36,7 @@ pub record RackTold (rack text : List ℕ) : Type 0 where
   -- the UIDs: each as often as the rack has it, and no other
   pub listed : List ℕ
   pub lists : (v : ℕ) → count v listed ≡ count v (uids Any rack)
-  pub says : text ≡ numberLine roundsWord (1 + sumTo 15 (λ i. length (shared (4 * suc i) (uids Any rack)))) ++ linesOf listed
+  pub says : text ≡ numberLine (ascii "rounds ") (1 + sumTo 15 (λ i. length (shared (4 * suc i) (uids Any rack)))) ++ linesOf listed
 
 lines-flat : (us rest : List ℕ) → uidLines (length us) (flat us ++ rest) ≡ linesOf us
 unfolding flat
@@ -54,7 +55,7 @@ of-result : (rack : List ℕ) {x : Result} → walkOf rack Any noList ≡ x → 
 unfolding printed
 of-result rack e = ap (λ (x : Result). walkText (x .report) (x .list)) e
 
-pub printed-refused : (rack : List ℕ) → (refusalOf rack 512 ≡ 0 → ⊥) → printed rack ≡ numberLine refusedWord (refusalOf rack 512)
+pub printed-refused : (rack : List ℕ) → (refusalOf rack 512 ≡ 0 → ⊥) → printed rack ≡ numberLine (ascii "refused ") (refusalOf rack 512)
 unfolding walkText
 printed-refused rack h = of-result rack (walk-refused rack Any noList h) ∙ rw (ne-eqb (refusalOf rack 512) 0 h) refl
 
@@ -77,7 +78,7 @@ printed-told rack small z =
       lists = p .lists;
       says =
           of-result rack (walk-carried rack Any noList z)
-          ∙ ap₂ (λ (c : ℕ) (l : List ℕ). numberLine roundsWord c ++ l) (p .counts)
+          ∙ ap₂ (λ (c : ℕ) (l : List ℕ). numberLine (ascii "rounds ") c ++ l) (p .counts)
           (ap₂ uidLines n m ∙ lines-flat (p .listed) (drop (length (flat (p .listed))) noList));
     }
 

@@ -7,25 +7,20 @@ use Rattle.frame.specs.Choose.{if_then_else_}
 use Rattle.inventory.specs.Walk.{walkOf}
 use Rattle.inventory.specs.declared.walk.Walked.{Walked}
 use Rattle.request.specs.declared.label.Family.the-variants.{Any}
-use Rattle.text.specs.Decimal.{numberLine}
-use Rattle.text.specs.Hex.{uidText}
+use Rattle.print.specs.Ascii.{ascii}
+use Rattle.print.specs.Decimal.{numberLine}
+use Rattle.print.specs.Hex.{uidText}
 
 -- the UIDs of the first n labels of a list, eight bytes each: high byte first, capitals, a line each
 abbrev pub uidLines : ℕ → List ℕ → List ℕ
 uidLines zero list = []
 uidLines (suc n) list = uidText (take 8 list) ++ (10 ∷ uidLines n (drop 8 list))
 
-abbrev pub roundsWord : List ℕ
-roundsWord = 114 ∷ 111 ∷ 117 ∷ 110 ∷ 100 ∷ 115 ∷ 32 ∷ []
-
-abbrev pub refusedWord : List ℕ
-refusedWord = 114 ∷ 101 ∷ 102 ∷ 117 ∷ 115 ∷ 101 ∷ 100 ∷ 32 ∷ []
-
 -- `rounds` and the number, then the UIDs; or `refused` and the number
 unfoldable pub walkText : Walked → List ℕ → List ℕ
 walkText w list =
-    if eqb (w .number) 0 then numberLine roundsWord (w .rounds) ++ uidLines (w .labels) list
-    else numberLine refusedWord (w .number)
+    if eqb (w .number) 0 then numberLine (ascii "rounds ") (w .rounds) ++ uidLines (w .labels) list
+    else numberLine (ascii "refused ") (w .number)
 
 -- the walk has no AFI, and its list room for 64 labels
 unfoldable pub printed : List ℕ → List ℕ

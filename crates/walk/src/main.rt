@@ -1,30 +1,33 @@
-// walk: reads a rack from standard input and walks it with no AFI. Prints the rounds, then the UIDs, high byte first; or what refuses it.
+// walk [RACK]: walks a rack, of standard input where no file is named, with no AFI. Prints the rounds, then the UIDs, high byte first; or what refuses it.
 use frame::uid::uid_at;
 use inventory::walk::Walked;
 use inventory::walk::walk;
+use libc::STDERR_FILENO;
+use print::hex::put_uid;
+use print::put::inside;
+use print::put::put_number_line;
+use print::put::put_text;
+use print::say::say;
 use request::label::Family;
+use text::file::Loaded;
+use text::file::load;
 use text::file::load_input;
-use text::hex::put_uid;
-use text::print::say;
-use text::put::put_number_line;
-use text::put::put_text;
 ghost use mathlib.Core.Path.{_≡_};
-ghost use Prim.Native.Nat.{_+_, _*_, _≤_};
+ghost use Prim.Native.Nat.{_*_, _≤_};
 ghost use lib.ListN.{length};
 ghost use lib.Seq.{sets};
+ghost use Rattle.print.specs.Puts.{Puts};
 ghost use Rattle.walk.specs.WalkText.{uidLines, walkText, printed};
 
 // A line with a number, of at most 20 digits, and a line for each of 64 labels.
 const ROOM: usize = 29 + 17 * 64;
 
-// The UIDs of the first n labels of a list from a place on, a line each; returns the place behind them.
+// The UIDs of the first n labels of a list, a line each.
 fn put_uids(text: &mut [u8], at: usize, list: &[u8], n: usize) -> usize
     requires { ⌜ 8 * n ≤ length (now list) ⌝ }
-    requires { ⌜ at + 17 * n ≤ length (now text) ⌝ }
-    ensures { λ r. ⌜ r ≡ at + 17 * n ⌝ }
-    ensures { λ r. ⌜ now (text .exit) ≡ sets (now (text .entry)) at (uidLines n (now (list .entry))) ⌝ }
+    ensures { λ r. ⌜ Puts (uidLines n (now (list .entry))) at (now (text .entry)) (now (text .exit)) r ⌝ }
 {
-    let mut p = at;
+    let mut p = inside(text.len(), at);
     let mut i = 0;
     while i < n {
         let end = put_uid(text, p, uid_at(list, 8 * i));
@@ -34,13 +37,10 @@ fn put_uids(text: &mut [u8], at: usize, list: &[u8], n: usize) -> usize
     p
 }
 
-// What is printed of a walk, to the front of text; returns how many bytes it is.
+// What is printed of a walk, to the front of text.
 fn put_walk(walked: Walked, list: &[u8], text: &mut [u8]) -> usize
     requires { ⌜ 8 * walked .labels ≤ length (now list) ⌝ }
-    requires { ⌜ 29 + 17 * walked .labels ≤ length (now text) ⌝ }
-    ensures { λ r. ⌜ r ≡ length (walkText walked (now (list .entry))) ⌝ }
-    ensures { λ r. ⌜ now (text .exit) ≡ sets (now (text .entry)) 0 (walkText walked (now (list .entry))) ⌝ }
-    ensures { λ r. ⌜ r ≤ length (now (text .exit)) ⌝ }
+    ensures { λ r. ⌜ Puts (walkText walked (now (list .entry))) 0 (now (text .entry)) (now (text .exit)) r ⌝ }
 {
     if walked.number != 0 {
         return put_number_line(text, 0, b"refused ", walked.number as u64);
@@ -61,9 +61,23 @@ fn print_to(text: &mut [u8], tags: &mut [u8]) -> usize
     put_walk(walked, &list, text)
 }
 
+// The rack that an argument names, or standard input where there is none, to the front of tags.
+fn load_rack(tags: &mut [u8]) -> Loaded
+    ensures { λ r. ⌜ r .len ≤ length (now (tags .exit)) ⌝ }
+{
+    if os::arg_count() == 2 {
+        return load(1, b"RACK", tags);
+    }
+    load_input(tags)
+}
+
 fn main() {
+    if 2 < os::arg_count() {
+        io::write_all(STDERR_FILENO, b"usage: walk [RACK]\n");
+        return;
+    }
     let mut tags = [0u8; 65537];
-    let loaded = load_input(&mut tags);
+    let loaded = load_rack(&mut tags);
     if !loaded.fine {
         return;
     }

@@ -1,16 +1,16 @@
 -- The budget falls with each turn; what `next` found is within the buffer. Assumes nothing.
+use borrow.Author.Needs.{needs}
 use lib.ListN.{length}
 use mathlib.Core.Path.{_≡_}
-use borrow.Author.Needs.{needs}
 use Rattle.play.proofs.play_lines.Statement.{statement}
 use Rattle.play.proofs.play_lines.Tie as tie
 
 abbrev Inv-loop : tie.InvT-loop
-Inv-loop tags₀ buf₀ draws₀ bytes₀ source₀ tally₀ left₀ tags buf draws bytes source tally left =
+Inv-loop quiet tags₀ buf₀ draws₀ bytes₀ source₀ n₀ left₀ tags buf draws bytes source n left =
     (length tags ≡ length tags₀) × (length buf ≡ length buf₀) × (length draws ≡ length draws₀) × (length bytes ≡ length bytes₀)
 
 abbrev μ-loop : tie.MeasureT-loop
-μ-loop tags₀ buf₀ draws₀ bytes₀ source₀ tally₀ left₀ tags buf draws bytes source tally left = left
+μ-loop quiet tags₀ buf₀ draws₀ bytes₀ source₀ n₀ left₀ tags buf draws bytes source n left = left
 
 pub play-lines-spec : {M : Type 1} → statement M
 play-lines-spec =
@@ -27,6 +27,12 @@ play-lines-spec =
     (λ c. search needs)
     (λ c. search needs)
     (λ c. search needs)
+    (λ c. search needs)
+    (λ c κs. search needs)
+    (λ c. search needs)
+    (λ c. search needs)
+    (λ c. search needs)
+    (λ c κs. search needs)
     (λ c. search needs)
     (λ c. search needs)
     (λ c. search needs)

@@ -10,13 +10,16 @@ put-walk-requires c κs =
     let w = c .before .before .before .before .before in
     let l = few-labels (w .walk .result) (w .walk .ensures .report) (w .walk .ensures .promised) in
     let k = w .walk .kept .1 .1 .0 in
-    (omega arith, omega arith)
+    omega arith
 
 returns : tie.Need-returns
 returns c =
     let p = c .before .before in
     let w = p .before .before .before .before .before .before in
-    printed-all _ _ (w .walk .ensures .report) (w .walk .ensures .written) (p .put-walk .ensures)
+    let l = few-labels (w .walk .result) (w .walk .ensures .report) (w .walk .ensures .promised) in
+    let k = w .walk .kept .1 .1 .0 in
+    printed-all _ _ (w .walk .ensures .report) (w .walk .ensures .written) (search needs) (search needs) (omega arith) (omega arith) (omega arith)
+    (p .put-walk .ensures)
 
 pub print-to-spec : {M : Type 1} → statement M
 print-to-spec =

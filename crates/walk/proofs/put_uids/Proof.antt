@@ -1,26 +1,27 @@
--- The UIDs still to be laid, from the place reached on, lead to the same end; 17 bytes of text each. Assumes nothing.
+-- The UIDs still to be laid are ahead; a turn lays one and the end of its line. Assumes nothing.
 use borrow.Author.Needs.{needs}
 use denote.Ref.{now}
 use lib.ListN.{length, drop}
-use lib.Seq.{sets}
-use mathlib.Core.Path.{_≡_, refl, _∙_}
+use mathlib.Core.List.{[], _∷_}
+use mathlib.Core.Path.{refl}
 use native.Mathlib.Nat.{sub-zero}
 use native.Mathlib.Omega.{arith}
-use Prim.Native.Nat.{_+_, _*_, _-_, _≤_}
+use Prim.Native.Nat.{_*_, _-_, _≤_}
+use Rattle.print.specs.Hex.{uidText}
+use Rattle.print.proofs.Puts.{Ahead, ahead-start, ahead-turn, ahead-end}
 use Rattle.walk.specs.WalkText.{uidLines}
 use Rattle.walk.proofs.WalkTextPuts.{uids-one, uids-none}
 use Rattle.walk.proofs.put_uids.Statement.{statement}
 use Rattle.walk.proofs.put_uids.Tie as tie
 
 abbrev Inv-loop : tie.InvT-loop
-Inv-loop text₀ at list n p₀ i₀ t8 text p i =
-    (length text ≡ length text₀) × (i ≤ n) × (p ≡ at + 17 * i) × (sets text p (uidLines (n - i) (drop (8 * i) list)) ≡ sets text₀ at (uidLines n list))
+Inv-loop text₀ at list n p₀ i₀ t8 text p i = (i ≤ n) × Ahead (uidLines n list) at text₀ (uidLines (n - i) (drop (8 * i) list)) p text
 
 abbrev μ-loop : tie.MeasureT-loop
 μ-loop text₀ at list n p₀ i₀ t8 text p i = n - i
 
 loop-holds : tie.Need-loop-holds Inv-loop μ-loop
-loop-holds c = (refl, omega arith, omega arith, rw sub-zero refl)
+loop-holds c = (omega arith, rw sub-zero (ahead-start _ _ _ (search needs)))
 
 loop-again : tie.Need-loop-again Inv-loop μ-loop
 loop-again c =
@@ -28,23 +29,16 @@ loop-again c =
     let o = e .before .before .before .before .before in
     let u = o .before in
     let l = u .before .before .before in
-    let a = l .before .before .before .args in
-    let v = l .loop .inv in
+    let a = l .before .before .before .before .args in
     let t = u .before .before .loop-test .taken in
-    let f = o .put-uid .ensures in
-    let k = e .put-text .ensures in (
-      e .put-text .kept .0 ∙ o .put-uid .kept .0 ∙ v .0,
-      omega arith,
-      omega arith,
-      uids-one (now (a .list)) (l .loop .text) _ (a .n) (l .loop .i) (l .loop .p) _ t (omega arith) (v .3) (u .uid-at .ensures) f k,
-    )
+    let r = uids-one (now (a .list)) (a .n) (l .loop .i) (u .uid-at .result) t (u .uid-at .ensures) in
+    (omega arith, ahead-turn (10 ∷ []) (ahead-turn (uidText (u .uid-at .result)) (l .loop .inv .1) r (o .put-uid .ensures)) refl (e .put-text .ensures))
 
 returns : tie.Need-returns Inv-loop μ-loop
 returns c =
     let l = c .before in
-    let a = l .before .before .before .args in
-    let v = l .loop .inv in
-    (omega arith, uids-none (now (a .list)) (l .loop .text) _ (a .n) (l .loop .i) (l .loop .p) (c .loop-test .left) (v .3))
+    let a = l .before .before .before .before .args in
+    ahead-end (l .loop .inv .1) (uids-none (now (a .list)) (a .n) (l .loop .i) (c .loop-test .left))
 
 pub put-uids-spec : {M : Type 1} → statement M
 put-uids-spec =
@@ -52,6 +46,7 @@ put-uids-spec =
     (tie.spec
     Inv-loop
     μ-loop
+    (λ c κs. search needs)
     loop-holds
     (λ c. search needs)
     (λ c κs. search needs)
