@@ -164,7 +164,7 @@ fn do_work(b: &mut [u8], work: Work)
 }
 
 // The step of the chip that a body holds.
-fn act_on(b: &[u8], order: Order, draw: u8) -> Stepped
+pub fn act_on(b: &[u8], order: Order, draw: u8) -> Stepped
     requires { ⌜ 80 ≤ length (now b) ⌝ }
     ensures { λ r. ⌜ r ≡ stepped order draw (now (b .entry)) ⌝ }
 {

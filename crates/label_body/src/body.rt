@@ -105,7 +105,7 @@ fn do_work(b: &mut [u8], work: Work, data: &[u8])
 }
 
 // The step of the label that a body holds; count bytes were sent.
-fn act_on(b: &[u8], r: Request, count: usize) -> Stepped
+pub fn act_on(b: &[u8], r: Request, count: usize) -> Stepped
     requires { ⌜ 32 ≤ length (now b) ⌝ }
     ensures { λ s. ⌜ s ≡ stepped r count (now (b .entry)) ⌝ }
 {

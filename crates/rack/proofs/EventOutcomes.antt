@@ -26,10 +26,13 @@ use Rattle.rack.specs.Facts.{RackFine, Tellable, bodyOf}
 use Rattle.rack.specs.Event.{Event, carrying, aired, nextBody, frameOf, answer, answers, nextRack}
 use Rattle.rack.specs.Event.{opened, lengthAlone, played, least, refusalOf, eventOf, Replied}
 use Rattle.rack.specs.Pass.{AloneBy, PassOf}
-use Rattle.rack.proofs.FileVerdict.{rack-fine}
+use Rattle.rack.proofs.FileVerdict.{rack-fine, fine-rack}
 use Rattle.rack.proofs.EventTags.{frame-same, frame-short, sayable-next}
 use Rattle.rack.proofs.Pass.{tag-fine}
 use Rattle.rack.proofs.EventNext.{next-length, next-lengthAt, next-offset, next-start, body-next}
+
+pub fine-number : (r : List ℕ) → RackFine r → verdictOf r .number ≡ 0
+fine-number r ok = rw (fine-rack r ok) refl
 
 -- ---- which refusal is first: v the verdict, n the number of tags, as the code has them
 module _ (r : List ℕ) (number draws room : ℕ) (v : Verdict) (q : v ≡ verdictOf r) where

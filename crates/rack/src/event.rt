@@ -93,14 +93,11 @@ fn play(rack: &mut [u8], signal: Signal, bytes: &[u8], draws: &[u8]) -> Pass
     }
 }
 
-// The number of the refusal that applies, or 0.
+// The number of the refusal that applies on a well-formed rack, or 0.
 fn refuse(rack: &[u8], number: u8, draws: usize, room: usize) -> u8
+    requires { ⌜ RackFine (now rack) ⌝ }
     ensures { λ r. ⌜ r ≡ refusalOf (now (rack .entry)) number draws room ⌝ }
 {
-    let v = judge(rack);
-    if v.number != 0 {
-        return 1;
-    }
     if draws != count(rack) {
         return 2;
     }
@@ -125,8 +122,15 @@ fn tell(rack: &[u8], i: usize, said: Said, answer: &mut [u8]) -> usize
     write_said(said, body_of(rack, i), answer)
 }
 
-// Plays an event: 1 field off, 2 field on, 3 label frame, 4 bare end of frame, 5 chip frame.
-pub fn event(rack: &mut [u8], number: u8, frame: &[u8], draws: &[u8], answer: &mut [u8]) -> Report
+// Plays an event on a rack that is known to be well-formed.
+pub fn event_on(
+    rack: &mut [u8],
+    number: u8,
+    frame: &[u8],
+    draws: &[u8],
+    answer: &mut [u8],
+) -> Report
+    requires { ⌜ RackFine (now rack) ⌝ }
     ensures { λ r. ⌜ Replied (now (rack .entry)) number (now (frame .entry)) (now (draws .entry)) (now (answer .entry)) r (now (rack .exit))
         (now (answer .exit)) ⌝ }
 {
@@ -154,4 +158,20 @@ pub fn event(rack: &mut [u8], number: u8, frame: &[u8], draws: &[u8], answer: &m
         answered: 1,
         length: n,
     }
+}
+
+// Plays an event: 1 field off, 2 field on, 3 label frame, 4 bare end of frame, 5 chip frame.
+pub fn event(rack: &mut [u8], number: u8, frame: &[u8], draws: &[u8], answer: &mut [u8]) -> Report
+    ensures { λ r. ⌜ Replied (now (rack .entry)) number (now (frame .entry)) (now (draws .entry)) (now (answer .entry)) r (now (rack .exit))
+        (now (answer .exit)) ⌝ }
+{
+    let v = judge(rack);
+    if v.number != 0 {
+        return Report {
+            number: 1,
+            answered: 0,
+            length: 0,
+        };
+    }
+    event_on(rack, number, frame, draws, answer)
 }

@@ -86,6 +86,26 @@ pub fn step_tag(kind: u8, body: &mut [u8], signal: Signal, bytes: &[u8], draw: u
     Said::Nothing
 }
 
+// What a tag with this body says; its step is not taken.
+pub fn said_of(kind: u8, body: &[u8], signal: Signal, bytes: &[u8], draw: u8) -> Said
+    requires { ⌜ TagFine (kindOf kind) (now body) ⌝ }
+    ensures { λ r. ⌜ r ≡ saidBy (kindOf kind) (carrying signal (now (bytes .entry))) draw (now (body .entry)) ⌝ }
+{
+    if kind == LABEL {
+        let request = signal.label;
+        let stepped = label_body::body::act_on(body, request, bytes.len());
+        let answer = stepped.answer;
+        return Said::Label(answer);
+    }
+    if kind == CHIP {
+        let order = signal.chip;
+        let stepped = chip::body::act_on(body, order, draw);
+        let answer = stepped.answer;
+        return Said::Chip(answer);
+    }
+    Said::Nothing
+}
+
 // Whether something is said.
 pub fn speaking(said: Said) -> bool
     ensures { λ r. ⌜ r ≡ speaks said ⌝ }
