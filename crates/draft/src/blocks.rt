@@ -10,6 +10,7 @@ use crate::words::no_what;
 use frame::number::byte_at;
 use print::put::put_text;
 use text::hex::HexRun;
+use text::hex::is_gap;
 use text::hex::read_bytes;
 use text::words::is_blank;
 use text::words::lower;
@@ -23,17 +24,6 @@ use verbs::tokens::text_of;
 use verbs::tokens::word_from;
 use verbs::trouble::What;
 
-// Blanks, colons and dashes part bytes.
-fn parts(c: u8) -> bool {
-    if is_blank(c) {
-        return true;
-    }
-    if c == b':' {
-        return true;
-    }
-    c == b'-'
-}
-
 // The place of byte n of a run of pairs.
 fn place_of(s: &[u8], n: usize) -> usize {
     let mut at = 0;
@@ -42,7 +32,7 @@ fn place_of(s: &[u8], n: usize) -> usize {
     while 0 < left {
         left -= 1;
         let c = byte_at(s, at);
-        if parts(c) {
+        if is_gap(c) {
             at = place(at, 1);
             continue;
         }

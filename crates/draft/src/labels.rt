@@ -9,7 +9,8 @@ use crate::words::no_part;
 use crate::words::no_what;
 use crate::words::pair_from;
 use frame::uid::uid_number;
-use text::tokens::NumberRead;
+use text::count::CountRead;
+use text::count::count_in;
 use text::words::same_word;
 use verbs::data::place;
 use verbs::pieces::next_is;
@@ -162,8 +163,8 @@ fn mask(b: &mut [u8], line: &[u8], at: usize) -> Read {
 
 // A number of 1 to most, less 1.
 fn less_one(word: &[u8], most: u64) -> Less {
-    let n = text::tokens::number_in(word);
-    let NumberRead::Number(v) = n else {
+    let n = count_in(word);
+    let CountRead::Count(v) = n else {
         return Less::Other;
     };
     if v < 1 {

@@ -18,7 +18,7 @@ use rack::file::entry_of;
 use rack::file::judge;
 use rack::tag::CHIP;
 use rack::tag::LABEL;
-use text::tokens::after_mark;
+use text::mark::after_mark;
 use text::words::same_word;
 use verbs::data::place;
 use verbs::pieces::next_is;

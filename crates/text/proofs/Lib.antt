@@ -1,4 +1,4 @@
--- The laws of words and what they say, of numbers in decimal, of hex digits and of runs of them, and of lines.
+-- The laws of words, of hex digits and of runs of them, of a text's mark, of numbers in decimal, and of lines.
 pub mod WordsLead
 pub mod WordsSame
 pub mod WordsFirst
@@ -8,12 +8,9 @@ pub mod RunsPieces
 pub mod RunsPlaces
 pub mod RunsWithin
 pub mod RunsBack
-pub mod TokensMark
-pub mod TokensWords
-pub mod TokensBytes
-pub mod TokensNumber
-pub mod TokensQuoted
-pub mod TokensBack
+pub mod MarkTaken
+pub mod CountDigits
+pub mod CountBack
 pub mod LinesPlaces
 pub mod LinesBrought
 pub mod LinesNext

@@ -1,17 +1,17 @@
--- The ways out of `first_word` and `is_blank_rest`, where n is the place behind a text's first blanks. Assumes nothing.
+-- The ways out of `first_word`, where n is the place behind a text's first blanks. Assumes nothing.
 use mathlib.Core.Path.{_≡_, refl, ap, sym, _∙_}
-use mathlib.Core.Bool.{true, false}
+use mathlib.Core.Bool.{false}
 use mathlib.Core.List.{List, _∷_, _++_}
 use Prim.Native.Nat.{ℕ, _+_, _-_, _≤_}
 use native.Mathlib.Nat.{add-zero, zero-add, add-sub-cancel-left}
 use native.Mathlib.Omega.{arith}
 use borrow.Author.Tests.{eq-eqb, ne-eqb}
 use lib.Dec.{eqb}
-use lib.ListN.{length, getD, take, drop, length-drop, drop-of-length-le}
-use lib.Seq.{getD-drop, take-append-seam}
+use lib.ListN.{length, getD, take, drop}
+use lib.Seq.{take-append-seam}
 use Rattle.frame.proofs.Bools.{if-either, if-both}
 use Rattle.text.proofs.WordsLead.{lead-within, lead-from, lead-append}
-use Rattle.text.specs.Words.{isBlank, solid, lead, wordOf, wordAt, firstWord, bareText}
+use Rattle.text.specs.Words.{isBlank, solid, lead, wordOf, wordAt, firstWord}
 use Rattle.text.specs.declared.words.Keyword.{Keyword}
 use Rattle.text.specs.declared.words.Keyword.the-variants as w
 use Rattle.text.specs.declared.words.FirstWord.{FirstWord}
@@ -57,25 +57,3 @@ at-inside s n h =
 pub word-inside : (s : List ℕ) (x : FirstWord) → x ≡ firstWord s → x .rest ≤ length s
 unfolding firstWord
 word-inside s x e = rw e (at-inside s (lead isBlank s) (lead-within isBlank s))
-
--- what is left of a text from a place on
-pub rest-out : (s : List ℕ) (from : ℕ) → length s ≤ from → true ≡ bareText (drop from s)
-unfolding bareText
-rest-out s from h = sym (rw (drop-of-length-le s {i = from} h) refl)
-
-module _ (s : List ℕ) (from at : ℕ) (e : at ≡ from + lead isBlank (drop from s)) (k : from ≤ length s) where
-  pub rest-blank : at ≡ length s → true ≡ bareText (drop from s)
-  unfolding bareText
-  rest-blank h = sym (rw (eq-eqb (lead isBlank (drop from s)) (length (drop from s)) (let l = length-drop from s in omega arith)) refl)
-
-  module _ (h : at ≡ length s → ⊥) where
-    more : eqb (lead isBlank (drop from s)) (length (drop from s)) ≡ false
-    more = ne-eqb (lead isBlank (drop from s)) (length (drop from s)) (λ x. h (let l = length-drop from s in omega arith))
-
-    pub rest-tight : at ≡ from → false ≡ bareText (drop from s)
-    unfolding bareText
-    rest-tight t = sym (rw (more, eq-eqb (lead isBlank (drop from s)) 0 (omega arith)) refl)
-
-    pub rest-hash : (at ≡ from → ⊥) → eqb (getD s at 0) 35 ≡ bareText (drop from s)
-    unfolding bareText
-    rest-hash t = sym (rw (more, ne-eqb (lead isBlank (drop from s)) 0 (λ x. t (omega arith)), getD-drop, ← e) refl)

@@ -9,8 +9,7 @@ use native.Mathlib.Nat.{zero-add, suc-add}
 use native.Mathlib.Numerals.{add-one}
 use native.Mathlib.Omega.{arith}
 use lib.ListN.{length, getD, drop, length-drop, drop-of-length-le}
-use lib.Seq.{drop-cons, getD-drop}
-use Rattle.frame.specs.Choose.{if_then_else_}
+use lib.Seq.{drop-cons}
 use Rattle.frame.proofs.Bools.{below-or-not, if-both}
 use Rattle.text.specs.Words.{lead}
 
@@ -37,7 +36,7 @@ module _ (p : ℕ → Bool) where
         let y : lead p (drop (i + 1) s) ≡ lead p (drop (suc i) s) = rw add-one refl in
         omega arith
 
-  -- ---- where some pass, and where they stop
+  -- ---- where some pass
 
   go : (c : ℕ) (s : List ℕ) (k : ℕ) (t : Bool) → p c ≡ t → lead p (c ∷ s) ≡ suc k → (p c ≡ true) × (lead p s ≡ k)
   go c s k true e h = let z : suc (lead p s) ≡ suc k = sym (rw e refl) ∙ h in (e, omega arith)
@@ -50,20 +49,6 @@ module _ (p : ℕ → Bool) where
       (λ (l : i < length s). (l, go (getD s i 0) (drop (suc i) s) k (p (getD s i 0)) refl (ap (lead p) (sym (drop-cons s i 0 l)) ∙ h)))
       (λ (l : length s ≤ i). let z : 0 ≡ suc k = ap (lead p) (sym (drop-of-length-le s {i = i} l)) ∙ h in absurd (omega arith))
       (below-or-not i (length s))
-
-  stopped : (s : List ℕ) → lead p s < length s → p (getD s (lead p s) 0) ≡ false
-  stopped [] h = absurd (omega arith)
-  stopped (c ∷ s) h = by (p c) refl h (stopped s)
-    where
-      by : (t : Bool) → p c ≡ t → (if t then suc (lead p s) else 0) < suc (length s) → (lead p s < length s → p (getD s (lead p s) 0) ≡ false)
-          → p (getD (c ∷ s) (if t then suc (lead p s) else 0) 0) ≡ false
-      by true e h f = f (omega arith)
-      by false e h f = e
-
-  pub lead-stopped : (s : List ℕ) (from i : ℕ) → i ≡ from + lead p (drop from s) → i < length s → p (getD s i 0) ≡ false
-  lead-stopped s from i e h =
-      let l : lead p (drop from s) < length (drop from s) = let z = length-drop from s in omega arith in
-      ap (λ (k : ℕ). p (getD s k 0)) e ∙ ap p (sym (getD-drop from s (lead p (drop from s)) 0)) ∙ stopped (drop from s) l
 
   -- all of a text, and what stands behind it
   pub lead-append : (s t : List ℕ) → lead p s ≡ length s → lead p (s ++ t) ≡ length s + lead p t

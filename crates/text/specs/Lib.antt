@@ -1,7 +1,8 @@
 -- What the contracts cite.
+pub mod Count
 pub mod Hex
 pub mod Lines
+pub mod Mark
 pub mod Runs
 pub mod RunsPlaces
-pub mod Tokens
 pub mod Words

@@ -59,9 +59,3 @@ wordAt s n =
 -- the first word of a line and the place behind it; a `#` opens a comment
 unfoldable pub firstWord : List ℕ → FirstWord
 firstWord s = wordAt s (lead isBlank s)
-
--- nothing but blanks, or blanks and a comment behind them
-unfoldable pub bareText : List ℕ → Bool
-bareText s =
-    if eqb (lead isBlank s) (length s) then true
-    else not (eqb (lead isBlank s) 0) && eqb (getD s (lead isBlank s) 0) 35

@@ -56,7 +56,7 @@ pub fn value(c: u8) -> Nibble
 }
 
 // Blanks, colons and dashes part bytes.
-fn is_gap(c: u8) -> bool
+pub fn is_gap(c: u8) -> bool
     ensures { λ r. ⌜ r ≡ isGap c ⌝ }
 {
     if is_blank(c) {

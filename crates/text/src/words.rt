@@ -2,7 +2,7 @@
 ghost use mathlib.Core.Path.{_≡_};
 ghost use Prim.Native.Nat.{_+_, _≤_};
 ghost use lib.ListN.{length, drop};
-ghost use Rattle.text.specs.Words.{isBlank, solid, lead, lowered, sameWord, bareWord, wordOf, firstWord, bareText};
+ghost use Rattle.text.specs.Words.{isBlank, solid, lead, lowered, sameWord, bareWord, wordOf, firstWord};
 
 // What the first word of a line is: Empty where it has only blanks, Comment where its first byte but blanks is `#`. LabelSeal and ChipSeal are the
 // words with a `+`: the check sum is to be added.
@@ -154,21 +154,4 @@ pub fn first_word(line: &[u8]) -> FirstWord
         word: word,
         rest: to,
     }
-}
-
-// Whether s has nothing but blanks from `from` on, or blanks and a comment behind them.
-pub fn is_blank_rest(s: &[u8], from: usize) -> bool
-    ensures { λ r. ⌜ r ≡ bareText (drop from (now (s .entry))) ⌝ }
-{
-    if s.len() <= from {
-        return true;
-    }
-    let at = skip_blanks(s, from);
-    if at == s.len() {
-        return true;
-    }
-    if at == from {
-        return false;
-    }
-    s[at] == b'#'
 }

@@ -1,4 +1,4 @@
-// Prints what the words of three texts say; then reads lines through a buffer of 64 bytes, and prints of each its number, its word, and its bytes or
+// Prints what some words say, then bytes; then reads lines through a buffer of 64 bytes, and prints of each its number, its word, and its bytes or
 // what is wrong with them.
 use libc::STDERR_FILENO;
 use libc::STDIN_FILENO;
@@ -8,29 +8,21 @@ use print::say::print_bytes;
 use print::say::print_number;
 use print::say::print_uid;
 use print::say::say;
-use print::say::say_byte;
 use print::say::say_number;
+use text::count::CountRead;
+use text::count::count_in;
 use text::hex::HexRun;
 use text::hex::read_bytes;
 use text::lines::Reached;
 use text::lines::is_end;
 use text::lines::next;
 use text::lines::source_of;
-use text::tokens::ByteRead;
-use text::tokens::NumberRead;
-use text::tokens::QuotedRead;
-use text::tokens::after_mark;
-use text::tokens::byte_in;
-use text::tokens::number_in;
-use text::tokens::quoted_in;
-use text::tokens::uid_in;
-use text::tokens::word_from;
+use text::mark::after_mark;
 use text::words::Keyword;
 use text::words::first_word;
-use text::words::is_blank_rest;
 use text::words::same_word;
 
-fn name(w: Keyword) {
+fn name(w: Keyword) -> bool {
     match w {
         Keyword::Empty => say(b" empty"),
         Keyword::Comment => say(b" comment"),
@@ -79,22 +71,20 @@ fn bytes(s: &[u8]) {
         }
         HexRun::Bad(i) => place(b" bad at ", i),
         HexRun::Odd(i) => place(b" odd at ", i),
-        HexRun::Full => say(b" full"),
+        HexRun::Full => {
+            say(b" full");
+        }
     }
 }
 
 fn rest(w: Keyword, s: &[u8], from: usize) {
-    if takes_bytes(w) {
-        if s.len() < from {
-            return;
-        }
-        bytes(&s[from..]);
+    if !takes_bytes(w) {
         return;
     }
-    if is_blank_rest(s, from) {
+    if s.len() < from {
         return;
     }
-    say(b" and more");
+    bytes(&s[from..]);
 }
 
 fn line(n: u64, s: &[u8]) {
@@ -159,80 +149,38 @@ fn printed() {
     line_end();
 }
 
-fn number(word: &[u8]) {
-    let r = number_in(word);
+fn count(word: &[u8]) {
+    let r = count_in(word);
     match r {
-        NumberRead::Number(n) => say_number(b" number ", n),
-        NumberRead::Other => (),
+        CountRead::Count(n) => say_number(b" number ", n),
+        CountRead::Other => (),
     }
 }
 
-fn byte(word: &[u8]) {
-    let r = byte_in(word);
-    match r {
-        ByteRead::Byte(b) => say_byte(b" byte ", b),
-        ByteRead::Other => (),
-    }
-}
-
-fn uid(word: &[u8]) {
-    let r = uid_in(word);
-    if !r.fine {
-        return;
-    }
-    say(b" UID ");
-    let u = r.uid;
-    print_uid(u);
-}
-
-// What stands between quotes, of at most 10 bytes.
-fn quoted(word: &[u8]) {
-    let mut out = [b'.'; 10];
-    let r = quoted_in(word, &mut out);
-    match r {
-        QuotedRead::Quoted(n) => {
-            place(b" quoted ", n);
-            say(b" ");
-            say(&out);
-        }
-        QuotedRead::Other => (),
-    }
-}
-
-fn word(word: &[u8]) {
-    say(word);
-    number(word);
-    byte(word);
-    uid(word);
-    quoted(word);
-    if same_word(word, b"uid") {
+// A word, behind the mark where one stands, and what it says.
+fn word(s: &[u8]) {
+    let at = after_mark(s);
+    let w = &s[at..];
+    say(w);
+    count(w);
+    if same_word(w, b"uid") {
         say(b" itself");
     }
     line_end();
 }
 
-// The first ten words of a text, behind its mark.
-fn words(s: &[u8]) {
-    let mut at = after_mark(s);
-    let mut left: u64 = 10;
-    while 0 < left {
-        left -= 1;
-        let w = word_from(s, at);
-        let from = w.from;
-        let to = w.to;
-        if from < to {
-            word(&s[from..to]);
-        }
-        at = to;
-    }
+fn words() {
+    word(b"12");
+    word(b"7f");
+    word(b"UID");
+    word(b"1000000000");
+    word(b"\xEF\xBB\xBF999999999");
+    word(b"12#");
+    word(b"");
 }
 
 fn main() {
-    words(
-        b"  12 7f\t0x0A UID e0041234567890AB E0:04:12:34-56-78-90-aB 0xE0041234567890A 1000000000",
-    );
-    words(b"\"two words\"\"\" \"more than ten\" \"open it # and a comment");
-    words(b"\xEF\xBB\xBF999999999 12# #1");
+    words();
     if 1 < os::arg_count() {
         io::write_all(STDERR_FILENO, b"usage: text_test\n");
         return;

@@ -3,9 +3,9 @@ use borrow.Author.Needs.{needs}
 use native.Mathlib.Omega.{arith}
 use lib.ListN.{length}
 use Prim.Native.Nat.{_-_, _<_, _^_}
-use Rattle.text.proofs.TokensNumber.{Digits, digits-start, digits-end, digits-low, digits-high, digits-room, digits-on}
-use Rattle.text.proofs.tokens.decimal_in.Statement.{statement}
-use Rattle.text.proofs.tokens.decimal_in.Tie as tie
+use Rattle.text.proofs.CountDigits.{Digits, digits-start, digits-end, digits-low, digits-high, digits-room, digits-on}
+use Rattle.text.proofs.count.decimal_in.Statement.{statement}
+use Rattle.text.proofs.count.decimal_in.Tie as tie
 
 abbrev Inv-loop : tie.InvT-loop
 Inv-loop word n₀ i₀ n i = Digits word n i

@@ -13,8 +13,8 @@ use lib.Seq.{drop-cons}
 use Rattle.text.proofs.WordsLead.{lead-none, lead-stop, lead-go}
 use Rattle.print.specs.Decimal.{decimalOn, decimalValue}
 use Rattle.text.specs.Words.{lead}
-use Rattle.text.specs.Tokens.{isDecimal, decimalIn}
-use Rattle.text.specs.declared.tokens.NumberRead.the-variants.{Number, Other}
+use Rattle.text.specs.Count.{isDecimal, decimalIn}
+use Rattle.text.specs.declared.count.CountRead.the-variants.{Count, Other}
 
 -- the first i bytes are digits, and say n
 pub record Digits (s : List ℕ) (n i : ℕ) : Type 0 where
@@ -28,7 +28,7 @@ unfolding decimalValue
 digits-start s = record { inside = omega arith; some = omega arith; value = refl; small = omega arith }
 
 module _ (s : List ℕ) (n i : ℕ) (v : Digits s n i) where
-  pub digits-end : length s ≤ i → Number n ≡ decimalIn s
+  pub digits-end : length s ≤ i → Count n ≡ decimalIn s
   unfolding decimalIn
   digits-end h =
       let z = lead-none isDecimal s i (lead isDecimal s) (v .some) h in

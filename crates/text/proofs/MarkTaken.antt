@@ -6,7 +6,7 @@ use native.Mathlib.Omega.{arith}
 use lib.Dec.{eqb}
 use lib.ListN.{length, getD, List·getD-eq-default}
 use Rattle.frame.proofs.Bools.{off-and, if-false}
-use Rattle.text.specs.Tokens.{markLength}
+use Rattle.text.specs.Mark.{markLength}
 
 pub mark-short : (s : List ℕ) → length s < 3 → 0 ≡ markLength s
 unfolding markLength

@@ -1,28 +1,19 @@
--- What is written is read back: a UID, and a number below 10 ^ 9. Assumes nothing.
+-- A number below 10 ^ 9 is read back as it is written: every byte of its text is a digit. Assumes nothing.
 use mathlib.Core.Path.{_≡_, refl, ap, sym, _∙_}
-use mathlib.Core.Bool.{true}
-use mathlib.Core.List.{List, [], _∷_, reverse-reverse}
+use mathlib.Core.List.{List, [], _∷_}
 use Prim.Native.Nat.{ℕ, zero, suc, _+_, _/_, _%_, _^_, _≤_, _<_}
 use native.Mathlib.Omega.{arith}
 use borrow.Author.Tests.{eq-eqb, ne-eqb, lt-ltb, le-ltb, le-leb, ltb-true}
 use lib.Dec.{ltb}
 use lib.ListN.{length, length-append}
-use Rattle.frame.specs.Number.{Bytes}
 use Rattle.frame.proofs.Bools.{if-either, if-both}
 use Rattle.print.proofs.DecimalDigits.{short-to, decimal-value}
-use Rattle.text.proofs.RunsBack.{uid-read}
 use Rattle.text.proofs.WordsLead.{lead-append}
 use Rattle.print.specs.Decimal.{decimalTo, decimalText}
-use Rattle.print.specs.Hex.{digitOf, uidText}
+use Rattle.print.specs.Hex.{digitOf}
 use Rattle.text.specs.Words.{lead}
-use Rattle.text.specs.Tokens.{isDecimal, wholeHex, uidIn, decimalIn, numberIn}
-use Rattle.text.specs.declared.tokens.NumberRead.the-variants.{Number}
-
-pub uid-back : (u : List ℕ) → Bytes u → length u ≡ 8 → uidIn (uidText u) ≡ record { fine = true; uid = u }
-unfolding uidIn wholeHex
-uid-back u f l = rw (uid-read 8 u f (omega arith), eq-eqb (length u) 8 l, reverse-reverse u) refl
-
--- ---- numbers: every byte of one's text is a digit
+use Rattle.text.specs.Count.{isDecimal, decimalIn, countIn}
+use Rattle.text.specs.declared.count.CountRead.the-variants.{Count}
 
 digit-decimal : (n : ℕ) → n < 10 → lead isDecimal (digitOf n ∷ []) ≡ 1
 unfolding digitOf
@@ -55,8 +46,8 @@ text-short : (n : ℕ) → n < 10 ^ 9 → Short (decimalText n)
 unfolding decimalText
 text-short n h = record { some = some-digit n n; few = short-to n 8 n h; digits = all-digits n n (omega arith) }
 
-pub number-back : (n : ℕ) → n < 10 ^ 9 → numberIn (decimalText n) ≡ Number n
-unfolding numberIn decimalIn
+pub number-back : (n : ℕ) → n < 10 ^ 9 → countIn (decimalText n) ≡ Count n
+unfolding countIn decimalIn
 number-back n h =
     let t = decimalText n in
     let q = text-short n h in

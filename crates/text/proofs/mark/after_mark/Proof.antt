@@ -2,10 +2,10 @@
 use borrow.Author.Needs.{needs}
 use denote.Ref.{now}
 use Rattle.frame.proofs.Tests.{tests}
-use Rattle.text.specs.Tokens.{markLength}
-use Rattle.text.proofs.TokensMark.{mark-short}
-use Rattle.text.proofs.tokens.after_mark.Statement.{statement}
-use Rattle.text.proofs.tokens.after_mark.Tie as tie
+use Rattle.text.specs.Mark.{markLength}
+use Rattle.text.proofs.MarkTaken.{mark-short}
+use Rattle.text.proofs.mark.after_mark.Statement.{statement}
+use Rattle.text.proofs.mark.after_mark.Tie as tie
 
 pub after-mark-spec : {M : Type 1} → statement M
 unfolding markLength
