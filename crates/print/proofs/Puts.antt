@@ -9,12 +9,13 @@ use native.Mathlib.Omega.{arith}
 use borrow.Author.Needs.{needs}
 use borrow.Author.Tests.{le-leb, lt-leb}
 use lib.ListN.{length, take, drop, take-append-drop, length-append}
-use lib.Seq.{sets, set-out, length-sets, length-take-le, take-length}
+use lib.Seq.{sets, set-out, length-sets, length-take-le, take-length, take-all, take-at}
 use Rattle.frame.specs.Choose.{if_then_else_, gather}
 use Rattle.frame.proofs.Bools.{below-or-not}
 use Rattle.frame.proofs.Tests.{tests}
 use Rattle.frame.proofs.Lists.{gather-none, gather-more}
-use Rattle.frame.proofs.Puts.{sets-append}
+use Rattle.frame.specs.Number.{part}
+use Rattle.frame.proofs.Puts.{sets-append, sets-front}
 use Rattle.print.specs.Puts.{within, Puts, spaces}
 
 -- ---- places
@@ -130,6 +131,24 @@ module _ {s : List ℕ} {at : ℕ} {old new : List ℕ} {r : ℕ} (p : Puts s at
             ∙ within-add (length old) (at + length s) (length t)
             ∙ ap (within (length old)) e;
       }
+
+-- what was laid from the front on, read there: the text, as far as there was room
+pub puts-front : {s old new : List ℕ} {r : ℕ} → Puts s 0 old new r → part 0 r new ≡ take (length old) s
+puts-front {s} {old} {new} {r} p =
+    let k = length old in
+    ⊎-elim
+    (λ l.
+    let m : length (take k s) ≡ k = length-take-le k s (omega arith) in
+    let b : r ≡ k = p .behind ∙ within-past k (0 + length s) (omega arith) in
+    let e : 0 + k ≡ length old = omega arith in
+    let q : new ≡ take k s ++ drop (length (take k s)) old =
+    p .laid ∙ sym (sets-room s old 0 k e (omega arith)) ∙ sets-front (take k s) old (omega arith) in
+    rw (b, q) (take-at (take k s) (drop (length (take k s)) old) k m))
+    (λ l.
+    let b : r ≡ length s = p .behind ∙ within-here k (0 + length s) (omega arith) ∙ omega arith in
+    let q : new ≡ s ++ drop (length s) old = p .laid ∙ sets-front s old l in
+    rw (b, q) (take-at s (drop (length s) old) (length s) refl ∙ sym (take-all k s l)))
+    (below-or-not k (length s))
 
 -- where nothing has room, one text is as good as another
 no-room : {s t : List ℕ} {at : ℕ} {old new : List ℕ} {r : ℕ} → length old ≤ at → Puts s at old new r → Puts t at old new r

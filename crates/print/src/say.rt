@@ -4,8 +4,13 @@ use crate::hex::put_hex;
 use crate::hex::put_uid;
 use libc::STDOUT_FILENO;
 
-pub fn say(s: &[u8]) {
-    io::write_all(STDOUT_FILENO, s);
+// Whether all of it was written; if not, the cause is written to standard error.
+pub fn say(s: &[u8]) -> bool {
+    if io::write_all(STDOUT_FILENO, s) {
+        return true;
+    }
+    os::fail(b"output");
+    false
 }
 
 pub fn line_end() {

@@ -37,14 +37,18 @@ fn print_meaning(m: Meaning) {
     match m {
         Meaning::Refused(n) => say_number(b"refused ", n as u64),
         Meaning::Error(e) => say_byte(b"error ", e),
-        Meaning::Done => say(b"done"),
+        Meaning::Done => {
+            say(b"done");
+        }
         Meaning::Found(d) => say_byte(b"found DSFID ", d),
         Meaning::Block(at, n) => block(at, n),
         Meaning::LockAndBlock(k, at, n) => locked(k, at, n),
         Meaning::Info(d, f, b, z, i) => system(d, f, b, z, i),
         Meaning::Id(id) => say_byte(b"Chip_ID ", id),
         Meaning::Word(w) => word(w),
-        Meaning::Uid => say(b"UID"),
+        Meaning::Uid => {
+            say(b"UID");
+        }
     }
 }
 
