@@ -3,3 +3,4 @@ pub mod QuestionTags
 pub mod ReasonWays
 pub mod WhyWords
 pub mod ChangeLaid
+pub mod OwnersTold

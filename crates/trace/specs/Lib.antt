@@ -6,3 +6,4 @@ pub mod Change
 pub mod Labels
 pub mod Chips
 pub mod Changes
+pub mod Owners
