@@ -1,3 +1,3 @@
 -- The laws of what is said of an event, and of one turn.
-pub mod ToldLaid
-pub mod TurnsBy
+pub mod ToldLeft
+pub mod TurnsLeft

@@ -1,31 +1,69 @@
--- What is said beside the reply to an event, and behind it. Assumes nothing.
-use mathlib.Core.List.{List, []}
+-- All that is said of one event. Assumes nothing.
+use mathlib.Core.Bool.{Bool}
+use mathlib.Core.List.{List, [], _++_}
+use mathlib.Core.Path.{_≡_}
 use Prim.Native.Nat.{ℕ}
 use lib.Dec.{eqb}
+use lib.ListN.{length, getD, take, replicate}
 use Rattle.frame.specs.Choose.{if_then_else_}
 use Rattle.frame.specs.Number.{part}
+use Rattle.print.specs.Puts.{Puts}
 use Rattle.request.specs.Signal.{signalOf}
 use Rattle.rack.specs.declared.event.Report.{Report}
-use Rattle.rack.specs.File.{verdictOf}
+use Rattle.rack.specs.Facts.{RackFine}
+use Rattle.rack.specs.Event.{Outcome, aired, least, eventOf}
+use Rattle.tell.specs.Lines.{frontText, lineText, quietText}
 use Rattle.tell.specs.Meanings.{answerText}
 use Rattle.trace.specs.Changes.{changesText}
+use Rattle.trace.specs.Owners.{ownersText}
 use Rattle.trace.specs.Words.{whyText}
+use Rattle.script.specs.Lines.{drawsFor}
 
--- why nobody answered, of a well-formed rack
-unfoldable pub silenceText : ℕ → List ℕ → List ℕ → List ℕ
-silenceText number frame new = if eqb (verdictOf new .number) 0 then whyText number frame (signalOf number frame) new else []
+-- ---- what an event leaves
 
--- what an answer that was alone means, or why nobody answered; `new` is the rack that the event left
-unfoldable pub meaningText : ℕ → List ℕ → Report → List ℕ → List ℕ → List ℕ
-meaningText number frame report answer new =
-    if eqb (report .answered) 1 then answerText number (signalOf number frame) (part 0 (report .length) answer)
-    else if eqb (report .answered) 0 then silenceText number frame new
-    else []
+-- as many draws as the rack has tags
+abbrev pub drawsOf : List ℕ → List ℕ → List ℕ
+drawsOf tags draws = take (drawsFor (getD tags 1 0) (length draws)) draws
 
--- what changed between two well-formed racks
-unfoldable pub movedText : List ℕ → List ℕ → List ℕ
-movedText old new = if eqb (verdictOf old .number) 0 then (if eqb (verdictOf new .number) 0 then changesText old new else []) else []
+-- its report, the rack and the answer, in a buffer of zeros
+unfoldable pub outcomeOf : List ℕ → ℕ → List ℕ → List ℕ → Outcome
+outcomeOf tags number frame draws = eventOf tags number frame (drawsOf tags draws) (replicate least 0)
 
--- changes are told of frames alone
-unfoldable pub changedText : ℕ → List ℕ → List ℕ → List ℕ
-changedText number old new = if eqb number 3 then movedText old new else if eqb number 5 then movedText old new else []
+-- the parts of an outcome, as a call comes back with them
+abbrev pub left : Report → List ℕ → List ℕ → Outcome
+left report rack out = record { report = report; rack = rack; out = out }
+
+-- ---- what is said of it, from rack `old` on
+
+-- beside its reply: what an answer that was alone means, why nobody answered, or who did
+unfoldable pub besideReply : ℕ → List ℕ → List ℕ → List ℕ → Outcome → List ℕ
+besideReply number frame draws old o =
+    if eqb (o .report .answered) 1 then answerText number (signalOf number frame) (part 0 (o .report .length) (o .out))
+    else if eqb (o .report .answered) 0 then whyText number frame (signalOf number frame) (o .rack)
+    else ownersText (aired number frame) draws old
+
+-- behind it: what a frame changed. Field on and off change more than anybody wants to read
+unfoldable pub behindReply : ℕ → List ℕ → List ℕ → List ℕ
+behindReply number old new = if eqb number 3 then changesText old new else if eqb number 5 then changesText old new else []
+
+-- more than any meaning has
+abbrev pub meaningRoom : ℕ
+meaningRoom = 2048
+
+unfoldable pub toldText : ℕ → ℕ → List ℕ → List ℕ → List ℕ → Outcome → List ℕ
+toldText n number frame draws old o =
+    lineText (frontText n number (signalOf number frame) (o .report) (o .out)) (take meaningRoom (besideReply number frame draws old o))
+    ++ behindReply number old (o .rack)
+
+-- line n plays event `number`: quietly, the reply alone
+unfoldable pub eventText : Bool → ℕ → ℕ → List ℕ → List ℕ → List ℕ → List ℕ
+eventText quiet n number frame draws tags =
+    let o = outcomeOf tags number frame draws in
+    if quiet then quietText n number (o .report) (o .out)
+    else toldText n number frame (drawsOf tags draws) tags o
+
+-- what the call that plays it promises: the rack that it leaves, and the text, laid from a place on
+pub record Played (quiet : Bool) (n number : ℕ) (frame draws tags : List ℕ) (at : ℕ) (out tags₁ out₁ : List ℕ) (r : ℕ) : Type 0 where
+  pub rack : tags₁ ≡ outcomeOf tags number frame draws .rack
+  pub fine : RackFine tags₁
+  pub text : Puts (eventText quiet n number frame draws tags) at out out₁ r

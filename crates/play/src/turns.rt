@@ -3,18 +3,19 @@ use crate::told::play_event;
 use print::hex::put_hex;
 use print::named::put_word_number;
 use print::put::put_decimal;
+use print::put::put_nothing;
 use print::put::put_text;
-use print::say::say;
 use script::lines::Action;
 use script::lines::action_of;
-use tell::meaning::part_of;
 use text::lines::Reached;
 use verbs::trouble::Trouble;
 use verbs::trouble::put_trouble;
-ghost use mathlib.Core.Path.{_≡_};
+ghost use Prim.Native.Nat.{_≤_};
+ghost use lib.ListN.{length};
 ghost use Rattle.print.specs.Puts.{Puts};
-ghost use Rattle.script.specs.Lines.{effectOf, lineRack};
-ghost use Rattle.play.specs.Turns.{wrongText, longText, drawsText, DrawsLeft, Turned};
+ghost use Rattle.rack.specs.Facts.{RackFine};
+ghost use Rattle.text.specs.declared.lines.Reached.the-variants.{Line};
+ghost use Rattle.play.specs.Turns.{wrongText, longText, drawsText, Turned};
 
 // Line n cannot be read.
 fn put_wrong(out: &mut [u8], at: usize, n: u64, trouble: Trouble) -> usize
@@ -50,45 +51,37 @@ fn draw(draws: &mut [u8]) {
     }
 }
 
-fn say_wrong(n: u64, trouble: Trouble) {
-    let mut text = [0u8; 256];
-    let m = put_wrong(&mut text, 0, n, trouble);
-    say(part_of(&text, 0, m));
-}
-
-fn say_long(n: u64) {
-    let mut text = [0u8; 64];
-    let m = put_long(&mut text, 0, n);
-    say(part_of(&text, 0, m));
-}
-
-fn say_draws(n: u64, draws: &[u8]) {
-    let mut text = [0u8; 256];
-    let m = put_draws(&mut text, 0, n, draws);
-    say(part_of(&text, 0, m));
-}
-
 // Plays line n.
-fn play_line(quiet: bool, line: &[u8], n: u64, tags: &mut [u8], draws: &mut [u8], bytes: &mut [u8])
-    ensures { λ r. ⌜ now (tags .exit) ≡ lineRack (now (line .entry)) (now (draws .entry)) (now (bytes .entry)) (now (tags .entry)) ⌝ }
-    ensures { λ r. ⌜ DrawsLeft (effectOf (now (line .entry)) (now (draws .entry)) (now (bytes .entry))) (now (draws .exit)) ⌝ }
-    ensures { λ r. ⌜ now (bytes .exit) ≡ effectOf (now (line .entry)) (now (draws .entry)) (now (bytes .entry)) .bytes ⌝ }
+fn play_line(
+    quiet: bool,
+    line: &[u8],
+    n: u64,
+    tags: &mut [u8],
+    draws: &mut [u8],
+    bytes: &mut [u8],
+    old: &mut [u8],
+    out: &mut [u8],
+    at: usize,
+) -> usize
+    requires { ⌜ RackFine (now tags) × (65536 ≤ length (now old)) ⌝ }
+    ensures { λ r. ⌜ Turned quiet n Line (now (line .entry)) (now (tags .entry)) (now (draws .entry)) (now (bytes .entry)) at (now (out .entry)) (now (tags .exit))
+        (now (draws .exit)) (now (bytes .exit)) (now (out .exit)) r ⌝ }
 {
     let action = action_of(line, draws, bytes);
     match action {
-        Action::Nothing => {}
+        Action::Nothing => put_nothing(out, at),
         Action::Play(number, len) => {
-            play_event(quiet, n, number, &bytes[0..len], tags, draws);
+            play_event(quiet, n, number, &bytes[0..len], tags, draws, old, out, at)
         }
         Action::Random => {
             draw(draws);
-            say_draws(n, draws);
+            put_draws(out, at, n, draws)
         }
-        Action::Wrong(trouble) => say_wrong(n, trouble),
+        Action::Wrong(trouble) => put_wrong(out, at, n, trouble),
     }
 }
 
-// One answer of `next`: line n is played, or is too long.
+// One answer of `next`: line n is played, or is too long. What is said of it is laid into out, from a place on.
 pub fn turn(
     quiet: bool,
     reached: Reached,
@@ -97,13 +90,17 @@ pub fn turn(
     tags: &mut [u8],
     draws: &mut [u8],
     bytes: &mut [u8],
-)
-    ensures { λ r. ⌜ Turned reached (now (line .entry)) (now (tags .entry)) (now (draws .entry)) (now (bytes .entry)) (now (tags .exit)) (now (draws .exit))
-        (now (bytes .exit)) ⌝ }
+    old: &mut [u8],
+    out: &mut [u8],
+    at: usize,
+) -> usize
+    requires { ⌜ RackFine (now tags) × (65536 ≤ length (now old)) ⌝ }
+    ensures { λ r. ⌜ Turned quiet n reached (now (line .entry)) (now (tags .entry)) (now (draws .entry)) (now (bytes .entry)) at (now (out .entry))
+        (now (tags .exit)) (now (draws .exit)) (now (bytes .exit)) (now (out .exit)) r ⌝ }
 {
     match reached {
-        Reached::Line => play_line(quiet, line, n, tags, draws, bytes),
-        Reached::Long => say_long(n),
-        Reached::End => {}
+        Reached::Line => play_line(quiet, line, n, tags, draws, bytes, old, out, at),
+        Reached::Long => put_long(out, at, n),
+        Reached::End => put_nothing(out, at),
     }
 }

@@ -3,6 +3,5 @@ pub mod LinesDraws
 pub mod LinesActions
 pub mod LinesCommands
 pub mod LinesInside
-pub mod LinesRack
 pub mod LinesMeant
 pub mod LinesAsked

@@ -6,13 +6,12 @@ use native.Mathlib.Nat.{sub-zero}
 use native.Mathlib.Omega.{arith}
 use borrow.Author.Tests.{lt-ltb, le-ltb, ltb-false}
 use lib.Dec.{ltb}
-use lib.ListN.{length, getD, take, drop, set, replicate}
+use lib.ListN.{length, getD, take, drop, set}
 use lib.Seq.{sets, drop-length, drop-drop}
 use Rattle.frame.proofs.Bools.{if-either}
 use Rattle.frame.proofs.Lists.{drop-head}
 use Rattle.frame.proofs.Puts.{one, none, sets-front}
-use Rattle.rack.specs.Event.{least, eventOf}
-use Rattle.script.specs.Lines.{padded, drawsFor, eventRack}
+use Rattle.script.specs.Lines.{padded, drawsFor}
 
 length-padded : (k : ℕ) (b : List ℕ) → length (padded k b) ≡ k
 length-padded zero b = refl
@@ -75,10 +74,3 @@ few-all n m most e h = e ∙ sym (rw (le-ltb most m (rw (sym e) h)) refl)
 pub few-inside : (n m most : ℕ) → n ≡ drawsFor m most → n ≤ most
 unfolding drawsFor
 few-inside n m most e = rw e (if-either (λ (k : ℕ). k ≤ most) (ltb most m) most m (λ q. omega arith) (λ q. ltb-false most m q))
-
--- the event takes so many
-pub event-left : (tags₁ tags frame draws : List ℕ) (number n : ℕ) → n ≡ drawsFor (getD tags 1 0) (length draws)
-    → tags₁ ≡ eventOf tags number frame (take (n - 0) draws) (replicate least 0) .rack → tags₁ ≡ eventRack tags number frame draws
-unfolding eventRack
-event-left tags₁ tags frame draws number n e f =
-    f ∙ ap (λ (k : ℕ). eventOf tags number frame (take k draws) (replicate least 0) .rack) (sub-zero n ∙ e)

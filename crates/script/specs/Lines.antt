@@ -1,14 +1,13 @@
 -- What an event line asks: its first word, and behind it hex, blanks or a comment; or a command. Assumes nothing.
 use mathlib.Core.Bool.{Bool, true, false}
 use mathlib.Core.List.{List, [], _∷_}
-use Prim.Native.Nat.{ℕ, zero, suc, _+_, _%_, _^_}
+use Prim.Native.Nat.{ℕ, zero, suc, _+_}
 use lib.Dec.{ltb}
-use lib.ListN.{length, getD, take, drop, replicate}
+use lib.ListN.{length, take, drop}
 use lib.Seq.{sets}
 use Rattle.frame.specs.Choose.{if_then_else_}
 use Rattle.frame.specs.Number.{bytesOf}
 use Rattle.frame.specs.CheckSum.{crcOf}
-use Rattle.rack.specs.Event.{least, eventOf}
 use Rattle.text.specs.Words.{firstWord}
 use Rattle.text.specs.Runs.{hexOf}
 use Rattle.text.specs.declared.words.Keyword.{Keyword}
@@ -129,26 +128,3 @@ effectBy w.Unknown line rest behind draws bytes = commandEffect line draws bytes
 
 unfoldable pub effectOf : List ℕ → List ℕ → List ℕ → Effect
 effectOf line draws bytes = effectBy (firstWord line .word) line (firstWord line .rest) (drop (firstWord line .rest) line) draws bytes
-
--- the rack that an event leaves
-unfoldable pub eventRack : List ℕ → ℕ → List ℕ → List ℕ → List ℕ
-eventRack tags number frame draws = eventOf tags number frame (take (drawsFor (getD tags 1 0) (length draws)) draws) (replicate least 0) .rack
-
--- the rack that a line leaves: an event takes the first n bytes for its frame, and what is no event changes nothing
-abbrev pub rackBy : Action → List ℕ → List ℕ → List ℕ → List ℕ
-rackBy act.Nothing draws bytes tags = tags
-rackBy (act.Play number n) draws bytes tags = eventRack tags number (take n bytes) draws
-rackBy act.Random draws bytes tags = tags
-rackBy (act.Wrong trouble) draws bytes tags = tags
-
-unfoldable pub lineRack : List ℕ → List ℕ → List ℕ → List ℕ → List ℕ
-lineRack line draws bytes tags =
-    let x = effectOf line draws bytes in
-    rackBy (x .action) (x .draws) (x .bytes) tags
-
--- how many events have come: they count modulo 2 ^ 64
-abbrev pub eventsBy : Action → ℕ → ℕ
-eventsBy act.Nothing events = events
-eventsBy (act.Play number n) events = (events + 1) % 2 ^ 64
-eventsBy act.Random events = events
-eventsBy (act.Wrong trouble) events = events

@@ -1,16 +1,22 @@
 -- The event's own statement, at the draws that the rack takes. Assumes nothing.
 use borrow.Author.Needs.{needs}
 use denote.Ref.{now}
-use Rattle.script.proofs.LinesDraws.{few-inside, event-left}
+use Rattle.script.proofs.LinesDraws.{few-inside}
+use Rattle.play.proofs.ToldLeft.{fine-left, played-quietly}
 use Rattle.play.proofs.told.play_quietly.Statement.{statement}
 use Rattle.play.proofs.told.play_quietly.Tie as tie
 
 returns : tie.Need-returns
 returns c =
-    let o = c .before .before .before .before .before in
+    let o = c .before .before .before .before .before .before .before .before in
     let d = o .before .before .before .before in
-    let a = d .before .before .before .before .before .args in
-    event-left _ (now (a .tags)) (now (a .frame)) (now (a .draws)) (a .number) _ (d .draws-for .ensures) (o .event .ensures .leaves)
+    let s = d .before .before .before .before .before .before in
+    let a = s .args in
+    let e = d .draws-for .ensures in
+    let f =
+    fine-left _ _ _ _ _ e (o .event-on .ensures) (s .pre) (λ i. d .before .before .before .before .slice-known .given i .fits)
+    (λ i. d .before .before .before .before .before .shared-slice-known .given i .fits) (λ i. d .before .before .before .shared-slice-known2 .given i .fits) in
+    played-quietly (now (a .tags)) (now (a .frame)) (now (a .draws)) (a .number) _ e (o .event-on .ensures) (a .n) f (c .before .before .put-quiet .ensures)
 
 pub play-quietly-spec : {M : Type 1} → statement M
 play-quietly-spec =
@@ -24,5 +30,6 @@ play-quietly-spec =
     (λ c κs. search needs)
     (λ c. search needs)
     (λ c κs. search needs)
+    (λ c. search needs)
     (λ c. search needs)
     returns)

@@ -1,22 +1,55 @@
--- The event's own statement, at the draws that the rack takes. Assumes nothing.
+-- The event's own statement, at the draws that the rack takes; the rack as it was stands in its buffer. Assumes nothing.
 use borrow.Author.Needs.{needs}
 use denote.Ref.{now}
-use Rattle.script.proofs.LinesDraws.{few-inside, event-left}
+use mathlib.Core.Path.{_≡_, sym, _∙_}
+use Rattle.frame.specs.Number.{part}
+use Rattle.rack.specs.Facts.{RackFine}
+use Rattle.script.proofs.LinesDraws.{few-inside}
+use Rattle.play.proofs.ToldLeft.{kept, fine-left, played-told}
 use Rattle.play.proofs.told.play_told.Statement.{statement}
 use Rattle.play.proofs.told.play_told.Tie as tie
 
+-- from the part of the old rack back to the event, the draws, the copy and the start
+abbrev played : tie.After-part-of → tie.After-event-on
+played c = c .before .before .before .before .before .before .before .before
+
+abbrev drawn : tie.After-part-of → tie.After-draws-for
+drawn c = played c .before .before .before .before
+
+abbrev copied : tie.After-part-of → tie.After-put-text
+copied c = drawn c .before .before .before .before
+
+abbrev start : tie.After-part-of → tie.Start
+start c = copied c .before .before .before .before .before .before .before .before
+
+was : (c : tie.After-part-of) → now (c .part-of .result) ≡ now (start c .args .tags)
+was c = c .part-of .ensures ∙ kept (now (start c .args .tags)) (start c .pre .0) (start c .pre .1) (copied c .put-text .ensures)
+
+put-told-requires : tie.Need-put-told-requires
+put-told-requires c κs =
+    let p = c .before in
+    let k = copied p in (
+      rw (was p) (start p .pre .0),
+      fine-left _ _ _ _ _ (drawn p .draws-for .ensures) (played p .event-on .ensures) (start p .pre .0) (λ i. k .before .before .before .before .before .before .slice-known .given i .fits)
+          (λ i. k .before .before .before .before .before .before .before .shared-slice-known .given i .fits) (λ i. k .before .before .before .before .before .shared-slice-known2 .given i .fits),
+    )
+
 returns : tie.Need-returns
 returns c =
-    let o = c .before .before .before .before .before .before .before .before in
-    let d = o .before .before .before .before in
-    let a = c .before .before .before .before .before .before .before .before .before .before .before .before .before .before .before .before .before .before .before .before .before .args in
-    event-left _ (now (a .tags)) (now (a .frame)) (now (a .draws)) (a .number) _ (d .draws-for .ensures) (o .event .ensures .leaves)
+    let p = c .before .before .before .before in
+    let a = start p .args in
+    let k = copied p in
+    let e = drawn p .draws-for .ensures in
+    let f =
+    fine-left _ _ _ _ _ e (played p .event-on .ensures) (start p .pre .0) (λ i. k .before .before .before .before .before .before .slice-known .given i .fits)
+    (λ i. k .before .before .before .before .before .before .before .shared-slice-known .given i .fits) (λ i. k .before .before .before .before .before .shared-slice-known2 .given i .fits) in
+    played-told (now (a .tags)) (now (a .frame)) (now (a .draws)) (a .number) _ e (played p .event-on .ensures) (a .n) f (was p)
+    (c .before .before .put-told .ensures)
 
 pub play-told-spec : {M : Type 1} → statement M
 play-told-spec =
     tie.close
     (tie.spec
-    (λ c. search needs)
     (λ c κs. search needs)
     (λ c κs. search needs)
     (λ c. search needs)
@@ -26,7 +59,11 @@ play-told-spec =
     (λ c κs. search needs)
     (λ c. search needs)
     (λ c. search needs)
+    (λ c. few-inside _ _ _ (c .before .before .before .before .before .before .before .before .draws-for .ensures))
+    (λ c. search needs)
     (λ c κs. search needs)
-    (λ c κs. search needs)
+    put-told-requires
+    (λ c. search needs)
+    (λ c. search needs)
     (λ c. search needs)
     returns)

@@ -1,13 +1,13 @@
 -- A ladder of tests on the number. Assumes nothing.
 use borrow.Author.Needs.{needs}
 use Rattle.print.proofs.Puts.{chosen}
-use Rattle.play.specs.Told.{changedText}
-use Rattle.play.proofs.told.put_changed.Statement.{statement}
-use Rattle.play.proofs.told.put_changed.Tie as tie
+use Rattle.play.specs.Told.{behindReply}
+use Rattle.play.proofs.told.put_behind.Statement.{statement}
+use Rattle.play.proofs.told.put_behind.Tie as tie
 
-pub put-changed-spec : {M : Type 1} → statement M
-unfolding changedText
-put-changed-spec =
+pub put-behind-spec : {M : Type 1} → statement M
+unfolding behindReply
+put-behind-spec =
     tie.close
     (tie.spec
     (λ c κs. search needs)

@@ -1,0 +1,113 @@
+-- What an event leaves and what is said of it, from what the calls tell. Assumes nothing.
+use mathlib.Core.Path.{_≡_, refl, ap, sym, _∙_}
+use mathlib.Core.Bool.{Bool, true, false}
+use mathlib.Core.List.{List}
+use Prim.Native.Nat.{ℕ, _-_, _≤_}
+use native.Mathlib.Nat.{sub-zero}
+use native.Mathlib.Omega.{arith}
+use borrow.Author.Tests.{eq-eqb, ne-eqb}
+use lib.ListN.{length, getD, take, replicate, length-replicate}
+use lib.Seq.{take-all}
+use Rattle.frame.specs.Number.{part, Bytes}
+use Rattle.frame.proofs.Numbers.{bytes-part}
+use Rattle.print.specs.Puts.{Puts}
+use Rattle.print.proofs.Puts.{puts-by, puts-then, puts-front}
+use Rattle.request.specs.Label.{dataOf}
+use Rattle.request.specs.Signal.{signalOf}
+use Rattle.request.specs.declared.signal.Signal.{Signal}
+use Rattle.rack.specs.declared.event.Report.{Report}
+use Rattle.rack.specs.Facts.{RackFine}
+use Rattle.rack.specs.Event.{Outcome, carrying, least, eventOf, Replied}
+use Rattle.rack.proofs.FileVerdict.{rack-fine, most-bytes}
+use Rattle.rack.proofs.EventOutcomes.{fine-number}
+use Rattle.rack.proofs.Floor.{left-fine}
+use Rattle.tell.specs.Lines.{frontText, lineText, quietText}
+use Rattle.tell.specs.Meanings.{answerText}
+use Rattle.trace.specs.Owners.{ownersText}
+use Rattle.trace.specs.Words.{whyText}
+use Rattle.script.specs.Lines.{drawsFor}
+use Rattle.play.specs.Told.{drawsOf, outcomeOf, left, besideReply, behindReply, meaningRoom, toldText, eventText, Played}
+
+-- ---- beside a reply, by how many answered
+
+module _ (number : ℕ) (f ds old new answer : List ℕ) (report : Report) {at : ℕ} {out out₁ : List ℕ} {q : ℕ} where
+  pub beside-answer : {s : Signal} {t : List ℕ} → report .answered ≡ 1 → s ≡ signalOf number f → t ≡ part 0 (report .length) answer
+      → Puts (answerText number s t) at out out₁ q → Puts (besideReply number f ds old (left report new answer)) at out out₁ q
+  unfolding besideReply
+  beside-answer h g k p = rw (eq-eqb (report .answered) 1 h) (rw (g, k) at p)
+
+  pub beside-why : {s : Signal} → (report .answered ≡ 1 → ⊥) → report .answered ≡ 0 → s ≡ signalOf number f → Puts (whyText number f s new) at out out₁ q
+      → Puts (besideReply number f ds old (left report new answer)) at out out₁ q
+  unfolding besideReply
+  beside-why z h g p = rw (ne-eqb (report .answered) 1 z, eq-eqb (report .answered) 0 h) (rw g at p)
+
+  pub beside-owners : {s : Signal} {d : List ℕ} → (report .answered ≡ 1 → ⊥) → (report .answered ≡ 0 → ⊥) → s ≡ signalOf number f → d ≡ dataOf f
+      → Puts (ownersText (carrying s d) ds old) at out out₁ q → Puts (besideReply number f ds old (left report new answer)) at out out₁ q
+  unfolding besideReply
+  beside-owners z y g k p = rw (ne-eqb (report .answered) 1 z, ne-eqb (report .answered) 0 y) (rw (g, k) at p)
+
+-- ---- a rack and a meaning, read from where they were laid
+
+-- a rack that was laid into a buffer of enough room stands there
+pub kept : (tags : List ℕ) {old old₁ : List ℕ} {len : ℕ} → RackFine tags → 65536 ≤ length old → Puts tags 0 old old₁ len → part 0 len old₁ ≡ tags
+kept tags {old} ok h p =
+    let m = most-bytes tags (fine-number tags ok) in
+    puts-front p ∙ take-all (length old) tags (omega arith)
+
+-- a meaning that was laid into its buffer, read from there
+pub meaning-laid : {s meaning t : List ℕ} {m : ℕ} → Puts s 0 (replicate meaningRoom 0) meaning m → t ≡ part 0 m meaning → t ≡ take meaningRoom s
+meaning-laid {s} p e = e ∙ puts-front p ∙ ap (λ (k : ℕ). take k s) (length-replicate {A = ℕ} meaningRoom 0)
+
+-- the line of a reply, and what a frame changed behind it
+pub told-laid : (n number : ℕ) (f ds old new answer : List ℕ) (report : Report) {s : Signal} {t : List ℕ} {at p q : ℕ} {out out₁ out₂ : List ℕ}
+    → s ≡ signalOf number f → t ≡ take meaningRoom (besideReply number f ds old (left report new answer))
+    → Puts (lineText (frontText n number s report answer) t) at out out₁ p → Puts (behindReply number old new) p out₁ out₂ q
+    → Puts (toldText n number f ds old (left report new answer)) at out out₂ q
+unfolding toldText
+told-laid n number f ds old new answer report e k g h = puts-then (rw (e, k) at g) h
+
+-- ---- an event, with the draws that are lent, of which there are k
+module _ (tags frame draws : List ℕ) (number k : ℕ) (e : k ≡ drawsFor (getD tags 1 0) (length draws)) where
+  lent : take (k - 0) draws ≡ drawsOf tags draws
+  lent = ap (λ (m : ℕ). take m draws) (sub-zero k ∙ e)
+
+  module _ {report : Report} {tags₁ answer : List ℕ}
+      (p : Replied tags number frame (take (k - 0) draws) (replicate least 0) report tags₁ answer) where
+    is-left : left report tags₁ answer ≡ outcomeOf tags number frame draws
+    unfolding outcomeOf
+    is-left =
+        let whole : left report tags₁ answer ≡ eventOf tags number frame (take (k - 0) draws) (replicate least 0) = rw (p .reports, p .leaves, p .writes) refl in
+        whole ∙ ap (λ (ds : List ℕ). eventOf tags number frame ds (replicate least 0)) lent
+
+    pub fine-left : RackFine tags → Bytes tags → Bytes frame → Bytes draws → RackFine tags₁
+    fine-left ok bt bf bd =
+        rw (p .leaves)
+        (rack-fine _ (left-fine tags ok number frame (take (k - 0) draws) (replicate least 0) bt bf (bytes-part 0 (k - 0) draws bd)))
+
+    rack-left : tags₁ ≡ outcomeOf tags number frame draws .rack
+    rack-left = ap (λ (o : Outcome). o .rack) is-left
+
+    module _ (n : ℕ) (fine : RackFine tags₁) {at : ℕ} {out out₁ : List ℕ} {r : ℕ} where
+      pub played-quietly : Puts (quietText n number report answer) at out out₁ r → Played true n number frame draws tags at out tags₁ out₁ r
+      unfolding eventText
+      played-quietly g =
+          record { rack = rack-left; fine = fine; text = puts-by g (ap (λ (o : Outcome). quietText n number (o .report) (o .out)) is-left) }
+
+      pub played-told : {old : List ℕ} → old ≡ tags → Puts (toldText n number frame (take (k - 0) draws) old (left report tags₁ answer)) at out out₁ r
+          → Played false n number frame draws tags at out tags₁ out₁ r
+      unfolding eventText
+      played-told {old} q g =
+          record {
+            rack = rack-left;
+            fine = fine;
+            text =
+                puts-by g
+                (ap (λ (ds : List ℕ). toldText n number frame ds old (left report tags₁ answer)) lent
+                ∙ ap (λ (r₀ : List ℕ). toldText n number frame (drawsOf tags draws) r₀ (left report tags₁ answer)) q
+                ∙ ap (toldText n number frame (drawsOf tags draws) tags) is-left);
+          }
+
+-- told or not
+pub played-as : (quiet t : Bool) {n number : ℕ} {frame draws tags : List ℕ} {at : ℕ} {out tags₁ out₁ : List ℕ} {r : ℕ} → quiet ≡ t
+    → Played t n number frame draws tags at out tags₁ out₁ r → Played quiet n number frame draws tags at out tags₁ out₁ r
+played-as quiet t e p = rw e p
