@@ -131,16 +131,44 @@ static struct asked what_is_asked(uint8_t event, struct bytes frame)
     return end;
 }
 
+/* Whether a tag answers: played as the rack found it, alone on a rack of one. */
+static int answers(const struct player *p, size_t i, uint8_t event, struct bytes frame)
+{
+    static uint8_t rack[REF_RACK_MOST];
+    uint8_t answer[REF_OUTPUT];
+    struct ref_report report;
+    const uint8_t *entry = p->before + REF_HEAD + REF_ENTRY * i;
+    size_t len = (size_t)ref_number(entry + 2, 2), head = REF_HEAD + REF_ENTRY;
+    rack[0] = 1;
+    rack[1] = 1;
+    memcpy(rack + REF_HEAD, entry, REF_ENTRY);
+    for (int k = 0; k < 4; k++)
+        rack[REF_HEAD + 4 + k] = (uint8_t)(k == 0 ? head : 0);
+    memcpy(rack + head, p->before + ref_rack_offset(p->before, i), len);
+    ref_event(rack, head + len, event, frame.at, frame.len, p->draws + i, 1, answer, sizeof answer, &report);
+    return report.answered == 1;
+}
+
+static void tell_owners(const struct player *p, uint8_t event, struct bytes frame, char *out)
+{
+    int parts = 0;
+    for (size_t i = 0; i < ref_rack_tags(p->before); i++)
+        if (answers(p, i, event, frame))
+            out += sprintf(out, "%s%016llX", parts++ ? ", " : "", (unsigned long long)uid_at(p->before, i));
+}
+
 static void tell_meaning(const struct player *p, uint8_t event, struct bytes frame, const struct asked *asked,
                          const struct ref_report *report, const uint8_t *answer, int width)
 {
-    char meaning[160] = "";
+    char meaning[32 * REF_TAGS_MOST] = "";
     if (report->number != 0)
         return;
     if (report->answered == 1)
         meaning_of(asked, answer, report->length, meaning);
     else if (report->answered == 0)
         why_silent(p->rack.at, event, asked, frame.at, frame.len, meaning);
+    else
+        tell_owners(p, event, frame, meaning);
     if (*meaning)
         printf("%*s%s", width + 2 > MEANING ? 2 : MEANING - width, "", meaning);
 }
