@@ -76,7 +76,8 @@ module _ (tags frame draws : List ℕ) (number k : ℕ) (e : k ≡ drawsFor (get
     is-left : left report tags₁ answer ≡ outcomeOf tags number frame draws
     unfolding outcomeOf
     is-left =
-        let whole : left report tags₁ answer ≡ eventOf tags number frame (take (k - 0) draws) (replicate least 0) = rw (p .reports, p .leaves, p .writes) refl in
+        let whole : left report tags₁ answer ≡ eventOf tags number frame (take (k - 0) draws) (replicate least 0) =
+        rw (p .reports, p .leaves, p .writes) refl in
         whole ∙ ap (λ (ds : List ℕ). eventOf tags number frame ds (replicate least 0)) lent
 
     pub fine-left : RackFine tags → Bytes tags → Bytes frame → Bytes draws → RackFine tags₁

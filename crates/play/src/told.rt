@@ -36,8 +36,8 @@ fn put_beside(
     tags: &[u8],
 ) -> usize
     requires { ⌜ RackFine (now old) × RackFine (now tags) ⌝ }
-    ensures { λ r. ⌜ Puts (besideReply number (now (frame .entry)) (now (draws .entry)) (now (old .entry)) (left report (now (tags .entry)) (now (answer .entry))))
-        0 (now (out .entry)) (now (out .exit)) r ⌝ }
+    ensures { λ r. ⌜ Puts (besideReply number (now (frame .entry)) (now (draws .entry)) (now (old .entry))
+        (left report (now (tags .entry)) (now (answer .entry)))) 0 (now (out .entry)) (now (out .exit)) r ⌝ }
 {
     if report.answered == 1 {
         let n = report.length;

@@ -64,8 +64,8 @@ fn play_line(
     at: usize,
 ) -> usize
     requires { ⌜ RackFine (now tags) × (65536 ≤ length (now old)) ⌝ }
-    ensures { λ r. ⌜ Turned quiet n Line (now (line .entry)) (now (tags .entry)) (now (draws .entry)) (now (bytes .entry)) at (now (out .entry)) (now (tags .exit))
-        (now (draws .exit)) (now (bytes .exit)) (now (out .exit)) r ⌝ }
+    ensures { λ r. ⌜ Turned quiet n Line (now (line .entry)) (now (tags .entry)) (now (draws .entry)) (now (bytes .entry)) at (now (out .entry))
+        (now (tags .exit)) (now (draws .exit)) (now (bytes .exit)) (now (out .exit)) r ⌝ }
 {
     let action = action_of(line, draws, bytes);
     match action {

@@ -57,7 +57,8 @@ pub extern "C" fn sackbutflare_write_request(
     data: &[u8],
     out: &mut [u8],
 ) -> Written
-    ensures { λ r. ⌜ Wrote (commandFor f (length (now (uid .entry)))) (uidOf (now (uid .entry))) (now («data» .entry)) (now (out .entry)) r (now (out .exit)) ⌝ }
+    ensures { λ r. ⌜ Wrote (commandFor f (length (now (uid .entry)))) (uidOf (now (uid .entry))) (now («data» .entry)) (now (out .entry)) r
+        (now (out .exit)) ⌝ }
 {
     let c = command_for(f, uid.len());
     let u = uid_of(uid);

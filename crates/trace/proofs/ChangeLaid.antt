@@ -1,7 +1,7 @@
 -- Words laid by a choice, part by part, and with a colon for the first comma. Assumes nothing.
 use mathlib.Core.Path.{_≡_, refl, ap, ap₂, sym, _∙_}
 use mathlib.Core.Logic.{⊎-elim}
-use mathlib.Core.Bool.{Bool, true, false, false≢true}
+use mathlib.Core.Bool.{Bool, true, false, false≢true, _&&_}
 use mathlib.Core.List.{List, [], _∷_, _++_}
 use Prim.Native.Nat.{ℕ, zero, suc, _+_, _-_, _/_, _%_, _≤_, _<_}
 use native.Mathlib.Numerals.{add-one}
@@ -11,7 +11,7 @@ use lib.Dec.{eqb}
 use lib.ListN.{length, getD, set, take, drop}
 use lib.Seq.{sets, set-set, set-comm, length-sets}
 use Rattle.frame.specs.Choose.{if_then_else_, gather}
-use Rattle.frame.proofs.Bools.{below-or-not}
+use Rattle.frame.proofs.Bools.{below-or-not, and-true}
 use Rattle.print.specs.Puts.{within, Puts}
 use Rattle.print.proofs.Puts.{ahead-start, ahead-end, puts-by, puts-then, puts-length, puts-inside, puts-past}
 use Rattle.frame.specs.Number.{part}
@@ -20,7 +20,7 @@ use Rattle.chip.specs.Body.{placeOf, blockOf}
 use Rattle.chip.specs.Write.{locked}
 use Rattle.rack.proofs.FilePlaces.{span-part}
 use Rattle.trace.specs.Change.{whenText, rose, sameBytes, lockChange, coloned, colonAt}
-use Rattle.trace.specs.Labels.{bitChange, blockLock}
+use Rattle.trace.specs.Labels.{bitChange, blockLock, labelTold}
 use Rattle.rack.specs.File.{Kind, kindAt}
 use Rattle.rack.specs.Facts.{bodyOf}
 use Rattle.trace.specs.Chips.{wordLock, chipTold}
@@ -77,37 +77,41 @@ same-off : (n at : ℕ) (a b : List ℕ) → (getD a at 0 ≡ getD b at 0 → �
 unfolding sameBytes
 same-off n at a b e = rw (ne-eqb _ _ e) refl
 
--- k of them are
-pub record Matching (a b : List ℕ) (at n k : ℕ) : Type 0 where
+and-false : (t : Bool) → (t && false) ≡ false
+and-false true = refl
+and-false false = refl
+
+-- k of them are looked at, and `same` says whether all of these are
+pub record Matching (a b : List ℕ) (at n k : ℕ) (same : Bool) : Type 0 where
   pub upto : k ≤ n
-  pub same : sameBytes (n - k) (at + k) a b ≡ sameBytes n at a b
+  pub tells : (same && sameBytes (n - k) (at + k) a b) ≡ sameBytes n at a b
 
-pub matching-none : (a b : List ℕ) (at n : ℕ) → Matching a b at n 0
-matching-none a b at n = let e : n - 0 ≡ n = omega arith in let z : at + 0 ≡ at = omega arith in record { upto = omega arith; same = rw (e, z) refl }
+pub matching-none : (a b : List ℕ) (at n : ℕ) → Matching a b at n 0 true
+matching-none a b at n = let e : n - 0 ≡ n = omega arith in let z : at + 0 ≡ at = omega arith in record { upto = omega arith; tells = rw (e, z) refl }
 
-module _ {a b : List ℕ} {at n k : ℕ} (m : Matching a b at n k) where
-  module _ (h : k < n) {x y : ℕ} (p : x ≡ getD a (at + k) 0) (q : y ≡ getD b (at + k) 0) where
+module _ {a b : List ℕ} {at n k : ℕ} {same : Bool} (m : Matching a b at n k same) where
+  module _ (h : k < n) where
     step : n - k ≡ suc (n - (k + 1))
     step = omega arith
 
-    pub matching-not : (x ≡ y → ⊥) → false ≡ sameBytes n at a b
+    pub matching-not : (getD a (at + k) 0 ≡ getD b (at + k) 0 → ⊥) → Matching a b at n (k + 1) false
     matching-not z =
-        sym (same-off (n - (k + 1)) (at + k) a b (λ e. z (p ∙ e ∙ sym q))) ∙ ap (λ (j : ℕ). sameBytes j (at + k) a b) (sym step) ∙ m .same
+        let e : sameBytes (n - k) (at + k) a b ≡ false = rw step (same-off (n - (k + 1)) (at + k) a b z) in
+        record { upto = omega arith; tells = sym (and-false same) ∙ ap (λ (t : Bool). same && t) (sym e) ∙ m .tells }
 
-    pub matching-on : x ≡ y → Matching a b at n (k + 1)
+    pub matching-on : getD a (at + k) 0 ≡ getD b (at + k) 0 → Matching a b at n (k + 1) same
     matching-on z =
         let w : at + (k + 1) ≡ suc (at + k) = omega arith in
-        record {
-          upto = omega arith;
-          same = ap (λ (j : ℕ). sameBytes (n - (k + 1)) j a b) w
-              ∙ sym (same-on (n - (k + 1)) (at + k) a b (sym p ∙ z ∙ q))
-              ∙ ap (λ (j : ℕ). sameBytes j (at + k) a b) (sym step)
-              ∙ m .same;
-        }
+        let e : sameBytes (n - k) (at + k) a b ≡ sameBytes (n - (k + 1)) (at + (k + 1)) a b =
+        rw (step, w) (same-on (n - (k + 1)) (at + k) a b z) in
+        record { upto = omega arith; tells = ap (λ (t : Bool). same && t) (sym e) ∙ m .tells }
 
-  pub matching-done : n ≤ k → true ≡ sameBytes n at a b
+  pub matching-done : n ≤ k → same ≡ sameBytes n at a b
   unfolding sameBytes
-  matching-done h = let u = m .upto in let e : n - k ≡ 0 = omega arith in ap (λ (j : ℕ). sameBytes j (at + k) a b) (sym e) ∙ m .same
+  matching-done h =
+      let u = m .upto in
+      let e : n - k ≡ 0 = omega arith in
+      and-true same ∙ ap (λ (j : ℕ). same && sameBytes j (at + k) a b) (sym e) ∙ m .tells
 
 -- ---- the first comma
 
@@ -180,6 +184,10 @@ same-by a b e h g = sym (e ∙ ap₂ (λ (i j : ℕ). sameBytes i j a b) g h)
 pub place-low : (n : ℕ) → placeOf n ≤ 64
 unfolding placeOf
 place-low n = ⊎-elim (λ l. rw (lt-ltb n 16 l) (omega arith)) (λ l. rw (le-ltb n 16 l) (omega arith)) (below-or-not n 16)
+
+pub told-whole : (a b : List ℕ) → labelTold a b ≡ true → length b ≤ length a
+unfolding labelTold
+told-whole a b e = ⊎-elim (λ l. absurd (false≢true (rw (lt-ltb (length a) (length b) l) at e))) (λ l. l) (below-or-not (length a) (length b))
 
 pub told-long : (a b : List ℕ) → chipTold a b ≡ true → 80 ≤ length a
 unfolding chipTold

@@ -38,7 +38,8 @@ stays new p h = puts-none (rw (le-leb p (length new) h) refl)
 
 module _ {event : Event} {ds r : List ℕ} {at : ℕ} {old : List ℕ} {n i p : ℕ} {more : Bool} {new : List ℕ} (o : Owning event ds r at old n i p more new)
     (h : i < n) {t : Bool} (e : t ≡ answersAt event ds r i) where
-  pub owning-on : t ≡ true → {fin : List ℕ} {q : ℕ} → Puts (ownerText more (kindAt r i) (bodyOf r i)) p new fin q → Owning event ds r at old n (i + 1) q true fin
+  pub owning-on : t ≡ true → {fin : List ℕ} {q : ℕ} → Puts (ownerText more (kindAt r i) (bodyOf r i)) p new fin q
+      → Owning event ds r at old n (i + 1) q true fin
   unfolding some
   owning-on y g =
       let a : answersAt event ds r i ≡ true = sym e ∙ y in

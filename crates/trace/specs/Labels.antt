@@ -1,8 +1,8 @@
 -- What changed of a label: its body before, a, and behind an event, b. Assumes nothing.
-use mathlib.Core.Bool.{Bool, true, not}
+use mathlib.Core.Bool.{Bool, true, false, not}
 use mathlib.Core.List.{List, [], _∷_, _++_}
 use Prim.Native.Nat.{ℕ, _-_, _/_, _%_}
-use lib.Dec.{eqb}
+use lib.Dec.{eqb, ltb}
 use lib.ListN.{length, getD}
 use Rattle.frame.specs.Choose.{if_then_else_, gather}
 use Rattle.frame.specs.Number.{part}
@@ -53,9 +53,12 @@ labelChanges a b = labelFields a b ++ blockChanges a b
 unfoldable pub colonedChanges : List ℕ → List ℕ → List ℕ
 colonedChanges a b = coloned (labelChanges a b)
 
--- bytes 8 to 14, or those behind the slot and mask
+-- bytes 8 to 14, or those behind the slot and mask; a body before that is shorter has nothing to be told from
 unfoldable pub labelTold : List ℕ → List ℕ → Bool
-labelTold a b = if sameBytes 7 8 a b then not (sameBytes (length b - 32) 32 a b) else true
+labelTold a b =
+    if ltb (length a) (length b) then false
+    else if sameBytes 7 8 a b then not (sameBytes (length b - 32) 32 a b)
+    else true
 
 unfoldable pub toldLine : List ℕ → List ℕ → List ℕ
 toldLine a b = ascii "  label " ++ (uidText (part 0 8 b) ++ (colonedChanges a b ++ (10 ∷ [])))

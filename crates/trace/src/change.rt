@@ -60,19 +60,21 @@ pub fn is_new(old: bool, new: bool) -> bool
     new
 }
 
-// Whether n bytes from a place on are the same.
+// Whether n bytes from a place on are the same. Each is looked at, whatever those before it say: a loop with no way out is compiled to many bytes at a
+// time, and of a whole rack few bytes change.
 pub fn same_bytes(a: &[u8], b: &[u8], at: usize, n: usize) -> bool
-    requires { ⌜ at + n ≤ length (now b) ⌝ }
+    requires { ⌜ (at + n ≤ length (now a)) × (at + n ≤ length (now b)) ⌝ }
     ensures { λ r. ⌜ r ≡ sameBytes n at (now (a .entry)) (now (b .entry)) ⌝ }
 {
+    let mut same = true;
     let mut k = 0;
     while k < n {
-        if byte_at(a, at + k) != byte_at(b, at + k) {
-            return false;
+        if a[at + k] != b[at + k] {
+            same = false;
         }
         k += 1;
     }
-    true
+    same
 }
 
 fn put_block_name(out: &mut [u8], at: usize, n: u8) -> usize

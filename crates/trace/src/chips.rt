@@ -114,7 +114,7 @@ fn put_word(out: &mut [u8], at: usize, b: &[u8], n: u8) -> usize
 }
 
 fn put_word_change(out: &mut [u8], at: usize, a: &[u8], b: &[u8], n: u8) -> usize
-    requires { ⌜ 80 ≤ length (now b) ⌝ }
+    requires { ⌜ (80 ≤ length (now a)) × (80 ≤ length (now b)) ⌝ }
     ensures { λ r. ⌜ Puts (wordChange (now (a .entry)) (now (b .entry)) n) at (now (out .entry)) (now (out .exit)) r ⌝ }
 {
     let p = place(n);

@@ -72,7 +72,7 @@ fn put_fields(out: &mut [u8], at: usize, a: &[u8], b: &[u8]) -> usize
 
 // Block n, where its bytes changed.
 fn put_block_content(out: &mut [u8], at: usize, a: &[u8], b: &[u8], n: u8) -> usize
-    requires { ⌜ Sized (now b) × (n ≤ getD (now b) 11 0) ⌝ }
+    requires { ⌜ Sized (now b) × (n ≤ getD (now b) 11 0) × (length (now b) ≤ length (now a)) ⌝ }
     ensures { λ r. ⌜ Puts (blockContent (now (a .entry)) (now (b .entry)) n) at (now (out .entry)) (now (out .exit)) r ⌝ }
 {
     let p = place(b, n);
@@ -93,7 +93,7 @@ fn put_block_lock(out: &mut [u8], at: usize, a: &[u8], b: &[u8], n: u8) -> usize
 }
 
 fn put_block(out: &mut [u8], at: usize, a: &[u8], b: &[u8], n: u8) -> usize
-    requires { ⌜ Sized (now b) × (n ≤ getD (now b) 11 0) ⌝ }
+    requires { ⌜ Sized (now b) × (n ≤ getD (now b) 11 0) × (length (now b) ≤ length (now a)) ⌝ }
     ensures { λ r. ⌜ Puts (blockChange (now (a .entry)) (now (b .entry)) n) at (now (out .entry)) (now (out .exit)) r ⌝ }
 {
     let written = put_block_content(out, at, a, b, n);
@@ -101,7 +101,7 @@ fn put_block(out: &mut [u8], at: usize, a: &[u8], b: &[u8], n: u8) -> usize
 }
 
 fn put_blocks(out: &mut [u8], at: usize, a: &[u8], b: &[u8]) -> usize
-    requires { ⌜ Sized (now b) ⌝ }
+    requires { ⌜ Sized (now b) × (length (now b) ≤ length (now a)) ⌝ }
     ensures { λ r. ⌜ Puts (blockChanges (now (a .entry)) (now (b .entry))) at (now (out .entry)) (now (out .exit)) r ⌝ }
 {
     let count = b[11] as usize + 1;
@@ -115,7 +115,7 @@ fn put_blocks(out: &mut [u8], at: usize, a: &[u8], b: &[u8]) -> usize
 }
 
 fn put_label_changes(out: &mut [u8], at: usize, a: &[u8], b: &[u8]) -> usize
-    requires { ⌜ Sized (now b) ⌝ }
+    requires { ⌜ Sized (now b) × (length (now b) ≤ length (now a)) ⌝ }
     ensures { λ r. ⌜ Puts (labelChanges (now (a .entry)) (now (b .entry))) at (now (out .entry)) (now (out .exit)) r ⌝ }
 {
     let fields = put_fields(out, at, a, b);
@@ -123,18 +123,21 @@ fn put_label_changes(out: &mut [u8], at: usize, a: &[u8], b: &[u8]) -> usize
 }
 
 fn put_coloned(out: &mut [u8], at: usize, a: &[u8], b: &[u8]) -> usize
-    requires { ⌜ Sized (now b) ⌝ }
+    requires { ⌜ Sized (now b) × (length (now b) ≤ length (now a)) ⌝ }
     ensures { λ r. ⌜ Puts (colonedChanges (now (a .entry)) (now (b .entry))) at (now (out .entry)) (now (out .exit)) r ⌝ }
 {
     let end = put_label_changes(out, at, a, b);
     set_colon(out, at, end)
 }
 
-// Whether something changed that is told: state, AFI, DSFID, locks or blocks.
+// Whether something changed that is told: state, AFI, DSFID, locks or blocks. A body before that is shorter has nothing to be told from.
 fn is_told(a: &[u8], b: &[u8]) -> bool
     requires { ⌜ 32 ≤ length (now b) ⌝ }
     ensures { λ r. ⌜ r ≡ labelTold (now (a .entry)) (now (b .entry)) ⌝ }
 {
+    if a.len() < b.len() {
+        return false;
+    }
     if same_bytes(a, b, 8, 7) {
         return !same_bytes(a, b, 32, b.len() - 32);
     }
@@ -142,7 +145,7 @@ fn is_told(a: &[u8], b: &[u8]) -> bool
 }
 
 fn put_told(out: &mut [u8], at: usize, a: &[u8], b: &[u8]) -> usize
-    requires { ⌜ Sized (now b) ⌝ }
+    requires { ⌜ Sized (now b) × (length (now b) ≤ length (now a)) ⌝ }
     ensures { λ r. ⌜ Puts (toldLine (now (a .entry)) (now (b .entry))) at (now (out .entry)) (now (out .exit)) r ⌝ }
 {
     let uid = uid_at(b, 0);

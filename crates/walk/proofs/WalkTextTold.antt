@@ -45,7 +45,8 @@ lines-flat (u ∷ us) rest =
     let l = length-bytes 8 u in
     let a : (bytesOf 8 u ++ flat us) ++ rest ≡ bytesOf 8 u ++ (flat us ++ rest) = append-assoc (bytesOf 8 u) (flat us) rest in
     ap (uidLines (suc (length us))) a
-    ∙ ap₂ (λ (x y : List ℕ). uidText x ++ (10 ∷ uidLines (length us) y)) (take-at (bytesOf 8 u) (flat us ++ rest) 8 l) (drop-at (bytesOf 8 u) (flat us ++ rest) 8 l)
+    ∙ ap₂ (λ (x y : List ℕ). uidText x ++ (10 ∷ uidLines (length us) y)) (take-at (bytesOf 8 u) (flat us ++ rest) 8 l)
+    (drop-at (bytesOf 8 u) (flat us ++ rest) 8 l)
     ∙ ap (λ (t : List ℕ). uidText (bytesOf 8 u) ++ (10 ∷ t)) (lines-flat us rest)
 
 abbrev noList : List ℕ

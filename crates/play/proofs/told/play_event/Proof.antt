@@ -17,4 +17,6 @@ play-event-spec =
     (λ c. search needs)
     (λ c. search needs)
     (λ c. search needs)
-    (λ c. let p = c .before .before .before .before .before .before in played-as _ false (p .before .before .before .before .if1 .left) (p .play-told .ensures)))
+    (λ c.
+    let p = c .before .before .before .before .before .before in
+    played-as _ false (p .before .before .before .before .if1 .left) (p .play-told .ensures)))

@@ -25,26 +25,21 @@ start c = copied c .before .before .before .before .before .before .before .befo
 was : (c : tie.After-part-of) → now (c .part-of .result) ≡ now (start c .args .tags)
 was c = c .part-of .ensures ∙ kept (now (start c .args .tags)) (start c .pre .0) (start c .pre .1) (copied c .put-text .ensures)
 
+fine : (c : tie.After-part-of) → RackFine (played c .event-on .last .0)
+fine c =
+    let k = copied c .before .before .before .before .before in
+    fine-left _ _ _ _ _ (drawn c .draws-for .ensures) (played c .event-on .ensures) (start c .pre .0) (λ i. k .before .slice-known .given i .fits)
+    (λ i. k .before .before .shared-slice-known .given i .fits) (λ i. k .shared-slice-known2 .given i .fits)
+
 put-told-requires : tie.Need-put-told-requires
-put-told-requires c κs =
-    let p = c .before in
-    let k = copied p in (
-      rw (was p) (start p .pre .0),
-      fine-left _ _ _ _ _ (drawn p .draws-for .ensures) (played p .event-on .ensures) (start p .pre .0) (λ i. k .before .before .before .before .before .before .slice-known .given i .fits)
-          (λ i. k .before .before .before .before .before .before .before .shared-slice-known .given i .fits) (λ i. k .before .before .before .before .before .shared-slice-known2 .given i .fits),
-    )
+put-told-requires c κs = (rw (was (c .before)) (start (c .before) .pre .0), fine (c .before))
 
 returns : tie.Need-returns
 returns c =
     let p = c .before .before .before .before in
     let a = start p .args in
-    let k = copied p in
-    let e = drawn p .draws-for .ensures in
-    let f =
-    fine-left _ _ _ _ _ e (played p .event-on .ensures) (start p .pre .0) (λ i. k .before .before .before .before .before .before .slice-known .given i .fits)
-    (λ i. k .before .before .before .before .before .before .before .shared-slice-known .given i .fits) (λ i. k .before .before .before .before .before .shared-slice-known2 .given i .fits) in
-    played-told (now (a .tags)) (now (a .frame)) (now (a .draws)) (a .number) _ e (played p .event-on .ensures) (a .n) f (was p)
-    (c .before .before .put-told .ensures)
+    played-told (now (a .tags)) (now (a .frame)) (now (a .draws)) (a .number) _ (drawn p .draws-for .ensures) (played p .event-on .ensures) (a .n) (fine p)
+    (was p) (c .before .before .put-told .ensures)
 
 pub play-told-spec : {M : Type 1} → statement M
 play-told-spec =

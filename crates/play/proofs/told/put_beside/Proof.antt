@@ -7,7 +7,8 @@ use Rattle.play.proofs.told.put_beside.Tie as tie
 returns : tie.Need-returns
 returns c =
     let p = c .before .before in
-    beside-answer _ _ _ _ _ _ _ (p .before .before .before .before .if1 .taken) (p .before .before .hear .ensures) (p .before .part-of .ensures) (p .put-answer .ensures)
+    beside-answer _ _ _ _ _ _ _ (p .before .before .before .before .if1 .taken) (p .before .before .hear .ensures) (p .before .part-of .ensures)
+    (p .put-answer .ensures)
 
 returns-2 : tie.Need-returns-2
 returns-2 c =
@@ -19,7 +20,8 @@ returns-3 : tie.Need-returns-3
 returns-3 c =
     let p = c .before .before in
     let t = p .before .before .before .before in
-    beside-owners _ _ _ _ _ _ _ (t .before .before .if1 .left) (t .if2 .left) (p .before .before .hear3 .ensures) (p .before .data-of .ensures) (p .put-owners .ensures)
+    beside-owners _ _ _ _ _ _ _ (t .before .before .if1 .left) (t .if2 .left) (p .before .before .hear3 .ensures) (p .before .data-of .ensures)
+    (p .put-owners .ensures)
 
 pub put-beside-spec : {M : Type 1} → statement M
 put-beside-spec =

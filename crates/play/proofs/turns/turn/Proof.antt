@@ -15,7 +15,8 @@ returns-2 : tie.Need-returns-2
 returns-2 c =
     let p = c .before .before in
     let s = p .before .before .before .before .before .before .before .before .before .before in
-    turned-as got.Long (p .before .before .enum-told2 .given .1) (record { rack = refl; fine = s .pre .0; drawn = refl; read = refl; text = p .put-long .ensures })
+    turned-as got.Long (p .before .before .enum-told2 .given .1)
+    (record { rack = refl; fine = s .pre .0; drawn = refl; read = refl; text = p .put-long .ensures })
 
 returns-3 : tie.Need-returns-3
 returns-3 c =

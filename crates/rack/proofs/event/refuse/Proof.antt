@@ -16,13 +16,14 @@ returns-2 c =
 returns-3 : tie.Need-returns-3
 returns-3 c =
     let n = c .before .before .before in
-    gives-4-low _ _ _ _ _ refl (fine-number _ (n .before .before .pre)) _ (n .count .ensures) (c .before .before .if1 .left) (c .before .if2 .left) (c .if3 .taken)
+    gives-4-low _ _ _ _ _ refl (fine-number _ (n .before .before .pre)) _ (n .count .ensures) (c .before .before .if1 .left)
+    (c .before .if2 .left) (c .if3 .taken)
 
 returns-4 : tie.Need-returns-4
 returns-4 c =
     let n = c .before .before .before .before in
-    gives-4-high _ _ _ _ _ refl (fine-number _ (n .before .before .pre)) _ (n .count .ensures) (c .before .before .before .if1 .left) (c .before .before .if2 .left)
-    (c .before .if3 .left) (c .if4 .taken)
+    gives-4-high _ _ _ _ _ refl (fine-number _ (n .before .before .pre)) _ (n .count .ensures) (c .before .before .before .if1 .left)
+    (c .before .before .if2 .left) (c .before .if3 .left) (c .if4 .taken)
 
 returns-5 : tie.Need-returns-5
 returns-5 c =

@@ -9,7 +9,8 @@ returns : tie.Need-returns
 returns c =
     let b = c .before in
     let e = b .before in
-    (length-read (now (e .before .before .args .rack)) (e .before .before .args .i) (e .entry-of .ensures) (b .byte-at .ensures) (c .byte-at2 .ensures), search needs)
+    let a = e .before .before .args in
+    (length-read (now (a .rack)) (a .i) (e .entry-of .ensures) (b .byte-at .ensures) (c .byte-at2 .ensures), search needs)
 
 pub length-at-spec : {M : Type 1} → statement M
 length-at-spec =

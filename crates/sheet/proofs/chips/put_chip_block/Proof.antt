@@ -8,7 +8,8 @@ use Rattle.sheet.proofs.chips.put_chip_block.Tie as tie
 returns : tie.Need-returns
 returns c =
     let k = c .before .before .before .before .before in
-    chip-locked _ _ (k .is-locked .ensures) (k .before .block-of .ensures) (c .before .before .before .before .if1 .taken) (c .before .before .put-chip-block-line .ensures)
+    chip-locked _ _ (k .is-locked .ensures) (k .before .block-of .ensures) (c .before .before .before .before .if1 .taken)
+    (c .before .before .put-chip-block-line .ensures)
 
 returns-2 : tie.Need-returns-2
 returns-2 c =

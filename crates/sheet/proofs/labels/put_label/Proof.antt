@@ -18,7 +18,9 @@ load-requires c κs = sized-long (now (c .before .before .args .body)) (c .befor
 
 put-label-blocks-requires : tie.Need-put-label-blocks-requires
 unfolding loadOf
-put-label-blocks-requires c κs = let l = c .before .before .before .before .before .before in (l .before .before .before .pre, ap (λ (x : Label). x .blocks + 1) (l .load .ensures))
+put-label-blocks-requires c κs =
+    let l = c .before .before .before .before .before .before in
+    (l .before .before .before .pre, ap (λ (x : Label). x .blocks + 1) (l .load .ensures))
 
 returns : tie.Need-returns
 unfolding labelText

@@ -8,7 +8,9 @@ use Rattle.sheet.proofs.labels.put_mask_bytes.Statement.{statement}
 use Rattle.sheet.proofs.labels.put_mask_bytes.Tie as tie
 
 returns : tie.Need-returns
-returns c = puts-by (c .before .before .put-back .ensures) (ap uidText (mask-bytes _ _ (search needs) (c .before .before .before .before .before .before .before .put-number .ensures .1)))
+returns c =
+    let p = c .before .before .before .before .before .before .before in
+    puts-by (c .before .before .put-back .ensures) (ap uidText (mask-bytes _ _ (search needs) (p .put-number .ensures .1)))
 
 pub put-mask-bytes-spec : {M : Type 1} → statement M
 put-mask-bytes-spec =

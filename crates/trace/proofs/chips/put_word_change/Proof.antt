@@ -13,7 +13,10 @@ put-word-change-spec =
     tie.close
     (tie.spec
     (λ c κs. search needs)
-    (λ c κs. omega (arith, c .place .ensures, place-low (c .before .before .before .before .args .n)))
+    (λ c κs.
+    let s = c .before .before .before .before in
+    let l = place-low (s .args .n) in
+    (omega (arith, c .place .ensures, s .pre .0), omega (arith, c .place .ensures, s .pre .1)))
     (λ c κs. search needs)
     (λ c.
     let t = c .before in

@@ -11,6 +11,13 @@ use borrow.Author.Needs.{needs}
 use Rattle.trace.proofs.labels.put_block_content.Statement.{statement}
 use Rattle.trace.proofs.labels.put_block_content.Tie as tie
 
+same-bytes-requires : tie.Need-same-bytes-requires
+same-bytes-requires c κs =
+    let o = c .before in
+    let s = o .before .before .before .before in
+    let i = block-inside _ _ _ (o .place .ensures) (s .pre .0) (s .pre .1) in
+    (omega (arith, i, s .pre .2), i)
+
 pub put-block-content-spec : {M : Type 1} → statement M
 unfolding blockContent
 put-block-content-spec =
@@ -20,9 +27,7 @@ put-block-content-spec =
     (λ c. omega (arith, sized-long _ (c .before .before .before .before .before .pre .0)))
     (λ c. omega (arith, c .shared-slice-known3 .given 12))
     (λ c. omega (arith, c .shared-slice-known3 .given 12))
-    (λ c κs.
-    let o = c .before in
-    block-inside _ _ _ (o .place .ensures) (o .before .before .before .before .pre .0) (o .before .before .before .before .pre .1))
+    same-bytes-requires
     (λ c κs. search needs)
     (λ c.
     let t = c .before in

@@ -19,7 +19,9 @@ cast-put-block : tie.Need-cast-put-block Inv-loop μ-loop
 cast-put-block c = omega (arith, c .before .before .before .before .shared-slice-known3 .given 11, c .before .loop-test .taken)
 
 put-block-requires : tie.Need-put-block-requires Inv-loop μ-loop
-put-block-requires c κs = (c .before .before .before .before .before .before .before .before .pre, omega (arith, c .before .loop-test .taken))
+put-block-requires c κs =
+    let s = c .before .before .before .before .before .before .before .before in
+    (s .pre .0, omega (arith, c .before .loop-test .taken), s .pre .1)
 
 add-i : tie.Need-add-i Inv-loop μ-loop
 add-i c =
@@ -42,7 +44,7 @@ put-blocks-spec =
     (tie.spec
     Inv-loop
     μ-loop
-    (λ c. omega (arith, sized-long _ (c .before .before .before .before .pre)))
+    (λ c. omega (arith, sized-long _ (c .before .before .before .before .pre .0)))
     (λ c. omega (arith, c .shared-slice-known3 .given 11))
     (λ c. omega (arith, c .shared-slice-known3 .given 11))
     (λ c κs. search needs)

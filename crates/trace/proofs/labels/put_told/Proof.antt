@@ -23,7 +23,7 @@ pub put-told-spec : {M : Type 1} → statement M
 put-told-spec =
     tie.close
     (tie.spec
-    (λ c κs. omega (arith, sized-long _ (c .before .before .before .pre)))
+    (λ c κs. omega (arith, sized-long _ (c .before .before .before .pre .0)))
     (λ c. search needs)
     (λ c κs. search needs)
     (λ c κs. search needs)

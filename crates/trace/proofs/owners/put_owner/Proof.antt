@@ -25,7 +25,8 @@ unfolding ownerText
 returns c =
     let b = c .before .before .before in
     let w = b .before .before .before .before in
-    puts-then (w .put-when .ensures) (puts-by (c .before .before .put-tag-uid .ensures) (ap₂ tagUid (w .before .before .before .kind-of .ensures) (b .body-of .ensures)))
+    puts-then (w .put-when .ensures)
+    (puts-by (c .before .before .put-tag-uid .ensures) (ap₂ tagUid (w .before .before .before .kind-of .ensures) (b .body-of .ensures)))
 
 pub put-owner-spec : {M : Type 1} → statement M
 put-owner-spec =
