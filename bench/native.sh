@@ -8,12 +8,15 @@ here() {
     if [ "$(uname -m)" = x86_64 ]; then echo staticlib; else echo native; fi
 }
 
-# Makes target/native/libstation.a. rattle proves the crate and hands it to the kit's clang as one LLVM module for x86-64. Here that is a script, in a kit
-# of links, which keeps the module; then clang compiles it at the same level for the machine at hand. As C on Arm has it, a large struct is handed over
-# by its address and a large result has its address in a register of its own: sed turns the exported functions so.
-native() {
-    local bin=on/$(uname -m)/toolchain/bin own
+# compiled OUT COMMAND..: the object file, for the machine at hand, of what COMMAND has compiled. rattle proves a crate and hands it to the kit's clang as
+# one LLVM module for x86-64. Here that is a script, in a kit of links, which keeps the module; then clang compiles it at the same level for the machine
+# at hand. As C on Arm has it, a large struct is handed over by its address and a large result has its address in a register of its own: sed turns the
+# exported functions so.
+compiled() {
+    local out=$1 bin=on/$(uname -m)/toolchain/bin own
+    shift
     own=$(mktemp -d "$work/kit.XXXXXX")
+    chmod 711 "$work" "$own"   # rt runs a program as nobody
     cp -rs "$kit/." "$own"
     rm "$own/$bin/clang"
     cat >"$own/$bin/clang" <<END
@@ -22,14 +25,19 @@ for word; do case \$word in *.bc) cp "\$word" "$own/module.bc" ;; esac; done
 exec "$kit/$bin/clang" "\$@"
 END
     chmod +x "$own/$bin/clang"
-    RATTLE_HOME=$own rt staticlib station || return
+    RATTLE_HOME=$own "$@" || return
     "$kit/$bin/clang" --target=x86_64-unknown-linux-gnu -S -emit-llvm -Xclang -disable-llvm-passes -x ir "$own/module.bc" -o "$own/x86-64.ll" || return
     sed -E -e '/^target /d' -e 's/"target-cpu"="x86-64"//' -e '/^define .*@sackbutflare_/s/ byval\([^)]*\) align 8//' \
         -e '/^define noundef ptr @sackbutflare_/,/^}/{s/noundef ptr (@[a-z_]+)\(ptr /void \1(ptr sret(i8) /;s/ret ptr .*/ret void/}' \
         "$own/x86-64.ll" >"$own/here.ll"
-    "$kit/$bin/clang" -Werror -Wno-override-module -ffunction-sections -fdata-sections -fPIC -O3 -c -x ir "$own/here.ll" -o "$own/here.o" || return
+    "$kit/$bin/clang" -Werror -Wno-override-module -ffunction-sections -fdata-sections -fPIC -O3 -c -x ir "$own/here.ll" -o "$out"
+}
+
+# Makes target/native/libstation.a.
+native() {
+    compiled "$work/station.o" rt staticlib station || return
     mkdir -p target/native
-    ar rc target/native/libstation.a "$own/here.o"
+    ar rc target/native/libstation.a "$work/station.o"
 }
 
 # built KIND WHICH: prints the path of an archive of this kind. WHICH is one, or a git revision, which is built for minutes where its crates are not those
