@@ -46,8 +46,8 @@ struct sackbutflare_walked {
     size_t rounds;
 };
 
-/* Walks a rack, with an AFI where one is given. Refusals: 1 rack not well-formed, 5 list under 8 bytes a tag, 6 two labels in state 1 or 3
- * have one UID. */
+/* Walks a rack, with an AFI where one is given: 00 asks for all labels, one with low half 0 for every AFI of that high half, any other for that one only.
+ * Refusals: 1 rack not well-formed, 5 list under 8 bytes a tag, 6 two labels in state 1 or 3 have one UID. */
 struct sackbutflare_walked sackbutflare_walk(uint8_t *rack, size_t rack_length, bool afi_given, uint8_t afi, uint8_t *list, size_t list_length);
 
 /* ---- the reader's side */

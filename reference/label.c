@@ -167,9 +167,18 @@ static void start_sequence(uint8_t *body, unsigned bits, uint64_t mask)
         body[LABEL_MASK + i] = (uint8_t)(mask >> (8 * i));
 }
 
+/* ISO/IEC 15693-3, table 1, by the high half X and the low half Y of what is
+ * asked. Document 02, P1. */
 static int afi_passes(const uint8_t *body, int has_afi, uint8_t afi)
 {
-    return !has_afi || afi == 0x00 || afi == body[LABEL_AFI];
+    int x = afi >> 4, y = afi & 0x0F;
+    if (!has_afi)
+        return 1;
+    if (x == 0 && y == 0)
+        return 1;                                /* all families and subfamilies */
+    if (y == 0)
+        return body[LABEL_AFI] >> 4 == x;        /* all subfamilies of family X */
+    return body[LABEL_AFI] == afi;               /* subfamily Y of family X, or 0Y, only */
 }
 
 /* The filter is passed: run the one slot, or begin the sixteen. */

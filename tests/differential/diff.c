@@ -82,8 +82,8 @@ static void compare_walk(const uint8_t *rack, size_t len)
 {
     struct ref_walked a = { 9, 9, 9 }, b = { 8, 8, 8 };
     int has_afi = gen_chance(&g, 50);
-    uint8_t afi = (uint8_t)(gen_chance(&g, 30) ? 0 : gen_chance(&g, 50) ? gen_byte(&g)
-                            : len > 100 ? rack[ref_rack_offset(rack, 0) % len + 9] : 0);
+    size_t entry = len > 100 && rack[1] ? gen_below(&g, rack[1]) : 0;
+    uint8_t afi = gen_afi(&g, len > 100 ? rack[ref_rack_offset(rack, entry) % len + LABEL_AFI] : gen_byte(&g));
     size_t list_len = 8 * (size_t)(len > 1 ? rack[1] : 0);
     if (gen_chance(&g, 10))
         list_len += list_len && gen_chance(&g, 50) ? (size_t)-1 : 1;

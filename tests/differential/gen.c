@@ -108,6 +108,20 @@ static uint64_t new_uid(struct gen *g, struct family *f)
     return uid;
 }
 
+uint8_t gen_afi(struct gen *g, uint8_t near)
+{
+    uint32_t how = gen_below(g, 20);
+    if (how < 7)
+        return near;
+    if (how < 11)
+        return (uint8_t)((near & 0xF0) | gen_below(g, 16));
+    if (how < 14)
+        return near & 0xF0;
+    if (how < 16)
+        return near & 0x0F;
+    return how < 18 ? 0 : gen_byte(g);
+}
+
 static void new_family(struct gen *g, struct family *f)
 {
     memset(f, 0, sizeof *f);
@@ -171,7 +185,7 @@ static size_t sized_label(struct gen *g, struct family *f, uint8_t *body, unsign
     memset(body, 0, LABEL_HEAD);
     put_number(body, uid, 8);
     body[LABEL_DSFID] = gen_byte(g);
-    body[LABEL_AFI] = gen_chance(g, 60) ? f->afi : gen_chance(g, 30) ? 0 : gen_byte(g);
+    body[LABEL_AFI] = gen_afi(g, f->afi);
     body[LABEL_LOCKS] = (uint8_t)(gen_chance(g, 60) ? 0 : gen_below(g, 4));
     body[LABEL_BLOCKS] = (uint8_t)(blocks - 1);
     body[LABEL_SIZE] = (uint8_t)(size - 1);
@@ -677,18 +691,6 @@ static uint8_t odd_flags(struct gen *g, uint8_t flags)
     return flags;
 }
 
-static uint8_t pick_afi(struct gen *g, const uint8_t *body)
-{
-    uint32_t how = gen_below(g, 6);
-    if (how == 0)
-        return 0;
-    if (how == 1)
-        return gen_byte(g);
-    if (how == 2)
-        return body[LABEL_AFI] & 0xF0;
-    return body[LABEL_AFI];
-}
-
 static size_t inventory_frame(struct gen *g, const uint8_t *rack, uint8_t *frame)
 {
     const uint8_t *body = pick_label(g, rack);
@@ -700,7 +702,7 @@ static size_t inventory_frame(struct gen *g, const uint8_t *rack, uint8_t *frame
     frame[len++] = odd_flags(g, flags);
     frame[len++] = gen_chance(g, 96) ? 0x01 : gen_chance(g, 50) ? 0x20 : gen_byte(g);
     if (flags & 0x10)
-        frame[len++] = pick_afi(g, body);
+        frame[len++] = gen_afi(g, body[LABEL_AFI]);
     uint8_t bits = mask_length(g);
     frame[len++] = bits;
     len += put_mask(g, ref_number(body, 8), bits, frame + len);

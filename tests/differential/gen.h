@@ -23,6 +23,9 @@ uint64_t gen_u64(struct gen *g);
 uint8_t gen_byte(struct gen *g);
 uint32_t gen_below(struct gen *g, uint32_t n);         /* 0 to n - 1; n not 0 */
 int gen_chance(struct gen *g, uint32_t percent);
+/* An AFI to mark a label with or to ask for, that often meets this one: it
+ * shares its high half, is X0 or 0Y of it, or 00. */
+uint8_t gen_afi(struct gen *g, uint8_t near);
 
 /* Bytes of any kind, none, few or many; gives how many. */
 size_t gen_bytes(struct gen *g, uint8_t *bytes);

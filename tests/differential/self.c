@@ -1346,14 +1346,61 @@ static void inventory_afi_filter(void)
     SILENCE();
     lab("36 01 3F 00");
     SILENCE();
-    one_label()[9] = 0x31;
+}
+
+/* Asked on the left, marked on the right: table 1, row by row. */
+static void p1_table_1(void)
+{
+    static const struct {
+        uint8_t asked, marked;
+        int answers;
+    } rows[] = {
+        { 0x00, 0x00, 1 }, { 0x00, 0x30, 1 }, { 0x00, 0x05, 1 }, { 0x00, 0xFF, 1 },   /* 00: all */
+        { 0x30, 0x30, 1 }, { 0x30, 0x31, 1 }, { 0x30, 0x3F, 1 },                      /* X0: all of X */
+        { 0x30, 0x00, 0 }, { 0x30, 0x03, 0 }, { 0x30, 0x40, 0 }, { 0x30, 0x20, 0 },
+        { 0xF0, 0xFF, 1 }, { 0xF0, 0x0F, 0 }, { 0x10, 0x01, 0 }, { 0x10, 0x1A, 1 },
+        { 0x31, 0x31, 1 }, { 0x31, 0x30, 0 }, { 0x31, 0x32, 0 }, { 0x31, 0x01, 0 },   /* XY: that one only */
+        { 0x31, 0x00, 0 }, { 0x31, 0x41, 0 },
+        { 0x05, 0x05, 1 }, { 0x05, 0x00, 0 }, { 0x05, 0x35, 0 }, { 0x05, 0x50, 0 },   /* 0Y: that one only */
+        { 0x05, 0x0F, 0 }
+    };
+    for (size_t i = 0; i < sizeof rows / sizeof rows[0]; i++) {
+        char frame[12];
+        one_label()[9] = rows[i].marked;
+        finish();
+        sprintf(frame, "36 01 %02X 00", rows[i].asked);
+        lab(frame);
+        if (rows[i].answers)
+            SAYS_PLUS("00 5D " U);
+        else
+            SILENCE();
+        uint8_t *body = one_label();
+        body[9] = rows[i].marked;
+        running(body, 7, 8, 0x06);
+        finish();
+        sprintf(frame, "16 01 %02X 00", rows[i].asked);
+        lab(frame);                                      /* a label shut out loses its slot */
+        CHECK(rows[i].answers ? has_slot(0, 0, 0, 0) : no_slot(0));
+    }
+}
+
+static void p1_walk_of_a_family(void)
+{
+    static const uint8_t marks[] = { 0x30, 0x31, 0x3F, 0x00, 0x40, 0x03 };
+    begin();
+    for (unsigned i = 0; i < 6; i++)
+        label(0x11 + 0x10 * i, 1, 1)[9] = marks[i];
     finish();
-    lab("36 01 30 00");                                  /* exact, until P1 */
-    SILENCE();
-    one_label()[9] = 0x00;
-    finish();
-    lab("36 01 30 00");
-    SILENCE();
+    walk_with(1, 0x30, 48);
+    CHECK(walk_gave(2, 3) && listed(0, 0x11) && listed(1, 0x21) && listed(2, 0x31));
+    walk_with(1, 0x31, 48);
+    CHECK(walk_gave(1, 1) && listed(0, 0x21));
+    walk_with(1, 0x03, 48);
+    CHECK(walk_gave(1, 1) && listed(0, 0x61));
+    walk_with(1, 0x50, 48);
+    CHECK(walk_gave(1, 0));
+    walk_with(1, 0x00, 48);
+    CHECK(walk_gave(2, 6));
 }
 
 static void flag_bits_0_and_1_are_ignored(void)
@@ -2585,7 +2632,7 @@ static const struct { const char *name; void (*run)(void); } TESTS[] = {
     TEST(q25_slot_right_above_the_mask), TEST(q25_mask_of_60_bits_takes_its_slot),
     TEST(q26_mask_lengths), TEST(q27_too_few_bytes), TEST(q28_selected_takes_part_quiet_not),
     TEST(q29_inventory_flag_with_other_commands), TEST(inventory_afi_filter),
-    TEST(flag_bits_0_and_1_are_ignored),
+    TEST(p1_table_1), TEST(p1_walk_of_a_family), TEST(flag_bits_0_and_1_are_ignored),
     TEST(q30_select_and_address_both), TEST(q31_address_under_12_bytes),
     TEST(q32_quiet_acts_only_when_addressed), TEST(q33_twins_are_both_owners),
     TEST(q34_unknown_codes), TEST(command_01_without_inventory_flag), TEST(q35_stay_quiet),

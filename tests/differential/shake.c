@@ -194,12 +194,18 @@ static int has_twins(const uint8_t *rack)
     return 0;
 }
 
+/* The bits in which a label's AFI must be the one asked for. */
+static uint8_t bits_asked(int has_afi, uint8_t afi)
+{
+    return !has_afi || afi == 0 ? 0x00 : (afi & 0x0F) == 0 ? 0xF0 : 0xFF;
+}
+
 static void gather(const uint8_t *rack, int has_afi, uint8_t afi, struct expected *x)
 {
     memset(x, 0, sizeof *x);
     for (size_t i = 0; i < rack[1]; i++) {
         const uint8_t *b = rack + ref_rack_offset(rack, i);
-        if (ref_rack_kind(rack, i) == 1 && (b[14] & 1) && (!has_afi || afi == 0 || afi == b[9]))
+        if (ref_rack_kind(rack, i) == 1 && (b[14] & 1) && ((b[9] ^ afi) & bits_asked(has_afi, afi)) == 0)
             x->uids[x->count++] = ref_number(b, 8);
     }
 }
@@ -218,7 +224,7 @@ static void walk_laws(const uint8_t *rack, size_t len)
 {
     static struct expected x;
     int has_afi = gen_chance(&g, 50), tight = gen_chance(&g, 80);
-    uint8_t afi = gen_chance(&g, 40) || !rack[1] ? 0 : rack[ref_rack_offset(rack, 0) + 9];
+    uint8_t afi = rack[1] ? gen_afi(&g, rack[ref_rack_offset(rack, gen_below(&g, rack[1])) + 9]) : 0;
     size_t list_len = 8 * (size_t)rack[1] + (tight ? 0 : gen_below(&g, 20));
     if (rack[1] && gen_chance(&g, 5))
         list_len = 8 * (size_t)rack[1] - 1;

@@ -138,7 +138,7 @@ static void say_inventory(struct script *s, struct saying *say)
     if ((say->c.sixteen = (uint8_t)gen_chance(&s->g, 60)) != 0)
         put(s, " 16");
     if ((say->c.afi_present = (uint8_t)gen_chance(&s->g, 30)) != 0) {
-        say->c.afi = label && gen_chance(&s->g, 60) ? label[LABEL_AFI] : gen_chance(&s->g, 30) ? 0 : gen_byte(&s->g);
+        say->c.afi = gen_afi(&s->g, label ? label[LABEL_AFI] : gen_byte(&s->g));
         put(s, gen_chance(&s->g, 90) ? " afi " : " AFI\t");
         digits(s, say->c.afi, 1);
     }

@@ -36,12 +36,15 @@ static int states_of(const uint8_t *rack, uint8_t kind)
 
 /* ------------------------------------------------------------------ labels */
 
-/* Whether a label that is ready or selected is of the family. */
+/* Whether a label that is ready or selected is of the family: X0 is all of X,
+ * any other AFI itself alone. */
 static int family_is_here(const uint8_t *rack, uint8_t afi)
 {
-    for (size_t i = next_tag(rack, REF_KIND_LABEL, 0); i < ref_rack_tags(rack); i = next_tag(rack, REF_KIND_LABEL, i + 1))
-        if ((state_of(rack, i) & 1) && rack[ref_rack_offset(rack, i) + LABEL_AFI] == afi)
+    for (size_t i = next_tag(rack, REF_KIND_LABEL, 0); i < ref_rack_tags(rack); i = next_tag(rack, REF_KIND_LABEL, i + 1)) {
+        uint8_t mark = rack[ref_rack_offset(rack, i) + LABEL_AFI];
+        if ((state_of(rack, i) & 1) && (afi % 16 == 0 ? mark / 16 == afi / 16 : mark == afi))
             return 1;
+    }
     return 0;
 }
 

@@ -1,7 +1,7 @@
 -- Document 01, "Labels" and "Events": what a label does with a request, and what it answers. Assumes nothing.
 use mathlib.Core.Bool.{Bool, true, false, not, _&&_, _||_}
 use mathlib.Core.List.{List}
-use Prim.Native.Nat.{ℕ, _+_}
+use Prim.Native.Nat.{ℕ, _+_, _/_, _%_}
 use lib.Dec.{eqb, ltb}
 use Rattle.frame.specs.Choose.{if_then_else_, bit, set?}
 use Rattle.frame.specs.Number.{num}
@@ -86,10 +86,11 @@ fieldOff l = silent (withState 0 (ended l))
 unfoldable pub fieldOn : Label → Stepped
 fieldOn l = if eqb (l .state) 0 then silent (withState 1 l) else silent l
 
--- the AFI passes if absent, 00, or equal to the label's
+-- document 02, P1 (ISO/IEC 15693-3, table 1), which corrects document 01: the AFI passes if absent; 00 asks for all, a byte with low half 0 for
+-- every subfamily of that high half, any other byte for that one only
 unfoldable pub passes : Family → ℕ → Bool
 passes Any afi = true
-passes (Only f) afi = eqb f 0 || eqb f afi
+passes (Only f) afi = eqb f 0 || ((eqb (f % 16) 0 && eqb (f / 16) (afi / 16)) || eqb f afi)
 
 -- state 1 or 3
 unfoldable pub ready : Label → Bool

@@ -8,6 +8,7 @@ use request::label::Request;
 use request::label::Target;
 use request::table::Task;
 ghost use mathlib.Core.Path.{_≡_};
+ghost use Rattle.request.specs.declared.label.Family.the-variants.{Only};
 ghost use Rattle.label.specs.Step.{told, withSlot, awake, silent, done, failed, fieldOff, fieldOn, ended, passes, ready, heeds, turn, opens, inventory};
 ghost use Rattle.label.specs.Step.{endOfFrame, acts, perform, passed, asked, faulted, act, withState};
 ghost use Rattle.label.specs.Step.{readBlock, writeBlock, lockBlock, writeAfi, lockAfi, writeDsfid, lockDsfid};
@@ -50,13 +51,26 @@ pub struct Stepped {
     pub work: Work,
 }
 
+// Whether a label's AFI is one that the byte f asks for: 00 asks for all, low half 0 for all of that high half.
+fn family_has(f: u8, afi: u8) -> bool
+    ensures { λ r. ⌜ r ≡ passes (Only f) afi ⌝ }
+{
+    if f == 0 {
+        return true;
+    }
+    if f % 16 == 0 {
+        return f / 16 == afi / 16;
+    }
+    f == afi
+}
+
 // Whether a label's AFI passes a family asked for.
 pub fn passing(family: Family, afi: u8) -> bool
     ensures { λ r. ⌜ r ≡ passes family afi ⌝ }
 {
     match family {
         Family::Any => true,
-        Family::Only(f) => f == 0 || f == afi,
+        Family::Only(f) => family_has(f, afi),
     }
 }
 

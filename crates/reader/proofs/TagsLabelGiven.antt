@@ -331,7 +331,10 @@ familyAfi (Only afi) = afi
 family-passes : (family : Family) → steps.passes family (familyAfi family) ≡ true
 unfolding steps.passes
 family-passes Any = refl
-family-passes (Only afi) = or-right (eqb afi 0) (eqb afi afi) (eq-eqb afi afi refl)
+family-passes (Only afi) = or-right (eqb afi 0) (half || eqb afi afi) (or-right half (eqb afi afi) (eq-eqb afi afi refl))
+  where
+    half : Bool
+    half = eqb (afi % 16) 0 && eqb (afi / 16) (afi / 16)
 
 afi-small : (family : Family) → RangedFamily family → familyAfi family < 256
 unfolding RangedFamily
