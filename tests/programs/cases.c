@@ -2,8 +2,8 @@
  *
  *     cases SEED COUNT ROUNDS FOLDER
  *
- * writes N.rack, N.events and N.text to the folder, N from 0 on, and N.made
- * where the text must give that rack; and ROUNDS racks that are well-formed,
+ * writes N.rack, N.events, N.text and N.afis (AFIs to walk the rack with) to
+ * the folder, N from 0 on, and N.made where the text must give that rack; and ROUNDS racks that are well-formed,
  * round-N.rack, and damaged-N.rack. The first few scripts are at the edges of
  * the text (EDGES), the others random. The same seed gives the same files
  * everywhere. */
@@ -208,11 +208,25 @@ static void make_text(struct script *s, const char *folder, uint32_t n)
         write_file(folder, "", n, "made", rack, s->rack_len);
 }
 
+/* AFIs that meet those of the rack's labels, two digits each, in either case. */
+static void make_afis(struct script *s, const char *folder, uint32_t n)
+{
+    size_t tags = ref_well_formed(s->rack, s->rack_len) ? ref_rack_tags(s->rack) : 0;
+    s->out = create(folder, "", n, "afis");
+    for (int i = 0; i < 4; i++) {
+        size_t entry = tags ? gen_below(&s->g, (uint32_t)tags) : 0;
+        uint8_t near = tags ? s->rack[ref_rack_offset(s->rack, entry) + LABEL_AFI] : gen_byte(&s->g);
+        fprintf(s->out, gen_chance(&s->g, 50) ? "%02X\n" : "%02x\n", gen_afi(&s->g, near));
+    }
+    finish(s->out);
+}
+
 static void make_case(struct script *s, uint64_t seed, const char *folder, uint32_t n)
 {
     gen_seed(&s->g, seed * 1000003u + n);
     memset(s->draws, 0, sizeof s->draws);
     make_rack(s, folder, n);
+    make_afis(s, folder, n);
     make_text(s, folder, n);
     s->out = create(folder, "", n, "events");
     if (n < EDGES)

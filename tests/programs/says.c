@@ -4,7 +4,7 @@
  *     says play [-q] RACK [NEXT]     events on standard input
  *     says show RACK
  *     says make TEXT RACK
- *     says walk [RACK]               else the rack on standard input
+ *     says walk [--afi HH] [RACK]    else the rack on standard input
  *
  * It reads its input whole and then goes through it, and shares nothing with
  * the programs. */
@@ -14,6 +14,7 @@
 #include <stdio.h>
 #include <stdlib.h>
 #include <string.h>
+#include <strings.h>
 
 /* ------------------------------------------------------------------- files */
 
@@ -100,14 +101,14 @@ int printed(void)
 
 /* -------------------------------------------------------------------- walk */
 
-int walk(const char *path)
+int walk(int has_afi, uint8_t afi, const char *path)
 {
     uint8_t list[REF_UID * REF_TAGS_MOST];
     struct ref_walked walked;
     struct bytes rack = read_file(path);
     if (rack.at == NULL)
         return 0;
-    ref_walk(rack.at, rack.len, 0, 0, list, sizeof list, &walked);
+    ref_walk(rack.at, rack.len, has_afi, afi, list, sizeof list, &walked);
     if (walked.number != 0)
         printf("refused %u\n", (unsigned)walked.number);
     else
@@ -117,6 +118,27 @@ int walk(const char *path)
     printed();
     free(rack.at);
     return 0;
+}
+
+/* Walk's arguments: the first is `--afi`, or all that there is names a rack. */
+static int walk_words(int count, char **words)
+{
+    if (count == 0 || strcasecmp(words[0], "--afi") != 0) {
+        if (count > 1)
+            fputs("usage: walk [--afi HH] [RACK]\n", stderr);
+        return count > 1 ? 2 : walk(0, 0, count == 1 ? words[0] : NULL);
+    }
+    const char *word = count > 1 ? words[1] : "";
+    static const char hex[] = "0123456789abcdefABCDEF";
+    if (strlen(word) != 2 || strspn(word, hex) != 2) {
+        fputs("walk: --afi takes two hex digits\n", stderr);
+        return 2;
+    }
+    if (count > 3) {
+        fputs("usage: walk [--afi HH] [RACK]\n", stderr);
+        return 2;
+    }
+    return walk(1, (uint8_t)strtoul(word, NULL, 16), count == 3 ? words[2] : NULL);
 }
 
 int main(int argc, char **argv)
@@ -131,8 +153,8 @@ int main(int argc, char **argv)
         return show(names[0]);
     if (strcmp(what, "make") == 0 && named == 2)
         return make(names[0], names[1]);
-    if (strcmp(what, "walk") == 0 && (named == 0 || named == 1))
-        return walk(named == 1 ? names[0] : NULL);
-    fputs("usage: says play [-q] RACK [NEXT] | show RACK | make TEXT RACK | walk [RACK]\n", stderr);
+    if (strcmp(what, "walk") == 0)
+        return walk_words(named, names);
+    fputs("usage: says play [-q] RACK [NEXT] | show RACK | make TEXT RACK | walk [--afi HH] [RACK]\n", stderr);
     return 2;
 }

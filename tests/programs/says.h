@@ -134,6 +134,6 @@ void why_silent(const uint8_t *rack, uint8_t event, const struct asked *asked, c
 int play(int quiet, const char *path, const char *next);
 int show(const char *path);
 int make(const char *text, const char *path);
-int walk(const char *path);
+int walk(int has_afi, uint8_t afi, const char *path);
 
 #endif

@@ -1,5 +1,5 @@
 -- What is printed of a rack, in the words of demand 3: `refused` and the lowest number that applies; or `rounds` and their number, counted from the
--- UIDs, and a line for each label in state 1 or 3 and for no other. Assumes nothing.
+-- UIDs, and a line for each label in state 1 or 3 that the family lets answer and for no other. Assumes nothing.
 use mathlib.Core.Path.{_≡_, refl, ap, ap₂, _∙_}
 use mathlib.Core.List.{List, [], _∷_, _++_, reverse, append-assoc}
 use Prim.Native.Nat.{ℕ, suc, _+_, _*_, _/_}
@@ -10,7 +10,7 @@ use lib.Seq.{sets, take-at, drop-at}
 use Rattle.frame.specs.Number.{bytesOf, Bytes}
 use Rattle.frame.proofs.Numbers.{bytes-small, length-bytes}
 use Rattle.frame.proofs.Puts.{sets-front}
-use Rattle.request.specs.declared.label.Family.the-variants.{Any}
+use Rattle.request.specs.declared.label.Family.{Family}
 use Rattle.inventory.specs.Endings.{count, sumTo, shared}
 use Rattle.inventory.specs.Walk.{trip, zeros, blank, refusalOf, walkOf, uids, Result}
 use Rattle.inventory.specs.Promise.{flat}
@@ -32,11 +32,11 @@ abbrev pub linesOf : List ℕ → List ℕ
 linesOf [] = []
 linesOf (u ∷ us) = uidText (bytesOf 8 u) ++ (10 ∷ linesOf us)
 
-pub record RackTold (rack text : List ℕ) : Type 0 where
-  -- the UIDs: each as often as the rack has it, and no other
+pub record RackTold (family : Family) (rack text : List ℕ) : Type 0 where
+  -- the UIDs: each as often as a label has it that is in state 1 or 3 and that the family lets answer, and no other
   pub listed : List ℕ
-  pub lists : (v : ℕ) → count v listed ≡ count v (uids Any rack)
-  pub says : text ≡ numberLine (ascii "rounds ") (1 + sumTo 15 (λ i. length (shared (4 * suc i) (uids Any rack)))) ++ linesOf listed
+  pub lists : (v : ℕ) → count v listed ≡ count v (uids family rack)
+  pub says : text ≡ numberLine (ascii "rounds ") (1 + sumTo 15 (λ i. length (shared (4 * suc i) (uids family rack)))) ++ linesOf listed
 
 lines-flat : (us rest : List ℕ) → uidLines (length us) (flat us ++ rest) ≡ linesOf us
 unfolding flat
@@ -52,23 +52,24 @@ lines-flat (u ∷ us) rest =
 abbrev noList : List ℕ
 noList = replicate 512 0
 
-of-result : (rack : List ℕ) {x : Result} → walkOf rack Any noList ≡ x → printed rack ≡ walkText (x .report) (x .list)
+of-result : (family : Family) (rack : List ℕ) {x : Result} → walkOf rack family noList ≡ x → printed family rack ≡ walkText (x .report) (x .list)
 unfolding printed
-of-result rack e = ap (λ (x : Result). walkText (x .report) (x .list)) e
+of-result family rack e = ap (λ (x : Result). walkText (x .report) (x .list)) e
 
-pub printed-refused : (rack : List ℕ) → (refusalOf rack 512 ≡ 0 → ⊥) → printed rack ≡ numberLine (ascii "refused ") (refusalOf rack 512)
+pub printed-refused : (family : Family) (rack : List ℕ) → (refusalOf rack 512 ≡ 0 → ⊥)
+    → printed family rack ≡ numberLine (ascii "refused ") (refusalOf rack 512)
 unfolding walkText
-printed-refused rack h = of-result rack (walk-refused rack Any noList h) ∙ rw (ne-eqb (refusalOf rack 512) 0 h) refl
+printed-refused family rack h = of-result family rack (walk-refused rack family noList h) ∙ rw (ne-eqb (refusalOf rack 512) 0 h) refl
 
-pub printed-told : (rack : List ℕ) → Bytes rack → refusalOf rack 512 ≡ 0 → RackTold rack (printed rack)
+pub printed-told : (family : Family) (rack : List ℕ) → Bytes rack → refusalOf rack 512 ≡ 0 → RackTold family rack (printed family rack)
 unfolding walkText
-printed-told rack small z =
+printed-told family rack small z =
     let a = accepted rack 512 z in
     let fine : Fine rack = record { rack = a .fine; bytes = small } in
-    let t = trip (zeros rack) blank rack Any in
-    let p = done rack fine (own rack) Any (twins-none rack fine (a .single)) in
+    let t = trip (zeros rack) blank rack family in
+    let p = done rack fine (own rack) family (twins-none rack fine (a .single)) in
     let f = flat-length (p .listed) in
-    let k = uids-few Any rack in
+    let k = uids-few family rack in
     let s = p .size in
     let q = ap length (p .bytes) in
     let n : length (t .found) / 8 ≡ length (p .listed) = omega arith in
@@ -78,7 +79,7 @@ printed-told rack small z =
       listed = p .listed;
       lists = p .lists;
       says =
-          of-result rack (walk-carried rack Any noList z)
+          of-result family rack (walk-carried rack family noList z)
           ∙ ap₂ (λ (c : ℕ) (l : List ℕ). numberLine (ascii "rounds ") c ++ l) (p .counts)
           (ap₂ uidLines n m ∙ lines-flat (p .listed) (drop (length (flat (p .listed))) noList));
     }

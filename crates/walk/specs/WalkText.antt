@@ -6,7 +6,7 @@ use lib.ListN.{take, drop, replicate}
 use Rattle.frame.specs.Choose.{if_then_else_}
 use Rattle.inventory.specs.Walk.{walkOf}
 use Rattle.inventory.specs.declared.walk.Walked.{Walked}
-use Rattle.request.specs.declared.label.Family.the-variants.{Any}
+use Rattle.request.specs.declared.label.Family.{Family}
 use Rattle.print.specs.Ascii.{ascii}
 use Rattle.print.specs.Decimal.{numberLine}
 use Rattle.print.specs.Hex.{uidText}
@@ -22,6 +22,6 @@ walkText w list =
     if eqb (w .number) 0 then numberLine (ascii "rounds ") (w .rounds) ++ uidLines (w .labels) list
     else numberLine (ascii "refused ") (w .number)
 
--- the walk has no AFI, and its list room for 64 labels
-unfoldable pub printed : List ℕ → List ℕ
-printed rack = let w = walkOf rack Any (replicate 512 0) in walkText (w .report) (w .list)
+-- the walk with a family, and its list room for 64 labels
+unfoldable pub printed : Family → List ℕ → List ℕ
+printed family rack = let w = walkOf rack family (replicate 512 0) in walkText (w .report) (w .list)

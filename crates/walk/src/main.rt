@@ -1,4 +1,8 @@
-// walk [RACK]: walks a rack, of standard input where no file is named, with no AFI. Prints the rounds, then the UIDs, high byte first; or what refuses it.
+// walk [--afi HH] [RACK]: walks a rack, of standard input where no file is named, with this AFI or none. Prints the rounds, then the UIDs; or what refuses it.
+mod asked;
+
+use crate::asked::Asked;
+use crate::asked::afi_in;
 use frame::uid::uid_at;
 use inventory::walk::Walked;
 use inventory::walk::walk;
@@ -12,6 +16,7 @@ use request::label::Family;
 use text::file::Loaded;
 use text::file::load;
 use text::file::load_input;
+use text::words::same_word;
 ghost use mathlib.Core.Path.{_≡_};
 ghost use Prim.Native.Nat.{_*_, _≤_};
 ghost use lib.ListN.{length};
@@ -49,40 +54,68 @@ fn put_walk(walked: Walked, list: &[u8], text: &mut [u8]) -> usize
     put_uids(text, n, list, walked.labels)
 }
 
-// Walks a rack, and lays what is printed of it to the front of text; returns how many bytes it is.
-fn print_to(text: &mut [u8], tags: &mut [u8]) -> usize
+// Walks a rack with a family, and lays what is printed of it to the front of text; returns how many bytes it is.
+fn print_to(text: &mut [u8], family: Family, tags: &mut [u8]) -> usize
     requires { ⌜ 1117 ≤ length (now text) ⌝ }
-    ensures { λ r. ⌜ r ≡ length (printed (now (tags .entry))) ⌝ }
-    ensures { λ r. ⌜ now (text .exit) ≡ sets (now (text .entry)) 0 (printed (now (tags .entry))) ⌝ }
+    ensures { λ r. ⌜ r ≡ length (printed family (now (tags .entry))) ⌝ }
+    ensures { λ r. ⌜ now (text .exit) ≡ sets (now (text .entry)) 0 (printed family (now (tags .entry))) ⌝ }
     ensures { λ r. ⌜ r ≤ length (now (text .exit)) ⌝ }
 {
     let mut list = [0u8; 512];
-    let walked = walk(tags, Family::Any, &mut list);
+    let walked = walk(tags, family, &mut list);
     put_walk(walked, &list, text)
 }
 
-// The rack that an argument names, or standard input where there is none, to the front of tags.
-fn load_rack(tags: &mut [u8]) -> Loaded
+// The rack that argument i names, or standard input where there is none, to the front of tags.
+fn load_rack(i: usize, tags: &mut [u8]) -> Loaded
     ensures { λ r. ⌜ r .len ≤ length (now (tags .exit)) ⌝ }
 {
-    if os::arg_count() == 2 {
-        return load(1, b"RACK", tags);
+    if os::arg_count() <= i {
+        return load_input(tags);
     }
-    load_input(tags)
+    load(i, b"RACK", tags)
 }
 
-fn main() {
-    if 2 < os::arg_count() {
-        io::write_all(STDERR_FILENO, b"usage: walk [RACK]\n");
-        return;
+// Walks a rack with a family; argument i, the last, may name it.
+fn run(family: Family, i: usize) {
+    let words = os::arg_count();
+    if i < words {
+        if 1 < words - i {
+            io::write_all(STDERR_FILENO, b"usage: walk [--afi HH] [RACK]\n");
+            return;
+        }
     }
     let mut tags = [0u8; 65537];
-    let loaded = load_rack(&mut tags);
+    let loaded = load_rack(i, &mut tags);
     if !loaded.fine {
         return;
     }
     let len = loaded.len;
     let mut text = [0u8; ROOM];
-    let n = print_to(&mut text, &mut tags[0..len]);
+    let n = print_to(&mut text, family, &mut tags[0..len]);
     say(&text[0..n]);
+}
+
+// Whether the first argument is --afi.
+fn has_afi() -> bool {
+    let mut word = [0u8; 6];
+    let n = os::arg(1, &mut word);
+    same_word(&word[0..n], b"--afi")
+}
+
+// The AFI comes behind --afi; a word that is too long for one is read as none.
+fn main() {
+    if !has_afi() {
+        run(Family::Any, 1);
+        return;
+    }
+    let mut word = [0u8; 3];
+    let n = os::arg(2, &mut word);
+    let asked = afi_in(&word[0..n]);
+    match asked {
+        Asked::Byte(afi) => run(Family::Only(afi), 3),
+        Asked::Nothing => {
+            io::write_all(STDERR_FILENO, b"walk: --afi takes two hex digits\n");
+        }
+    }
 }

@@ -18,7 +18,7 @@ returns c =
     let w = p .before .before .before .before .before .before in
     let l = few-labels (w .walk .result) (w .walk .ensures .report) (w .walk .ensures .promised) in
     let k = w .walk .kept .1 .1 .0 in
-    printed-all _ _ (w .walk .ensures .report) (w .walk .ensures .written) (search needs) (search needs) (omega arith) (omega arith) (omega arith)
+    printed-all _ _ _ (w .walk .ensures .report) (w .walk .ensures .written) (search needs) (search needs) (omega arith) (omega arith) (omega arith)
     (p .put-walk .ensures)
 
 pub print-to-spec : {M : Type 1} → statement M
