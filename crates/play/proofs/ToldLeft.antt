@@ -1,7 +1,7 @@
 -- What an event leaves and what is said of it, from what the calls tell. Assumes nothing.
-use mathlib.Core.Path.{_≡_, refl, ap, sym, _∙_}
+use mathlib.Core.Path.{_≡_, refl, ap, ap₂, sym, subst, _∙_}
 use mathlib.Core.Bool.{Bool, true, false}
-use mathlib.Core.List.{List}
+use mathlib.Core.List.{List, []}
 use Prim.Native.Nat.{ℕ, _-_, _≤_}
 use native.Mathlib.Nat.{sub-zero}
 use native.Mathlib.Omega.{arith}
@@ -23,9 +23,13 @@ use Rattle.rack.proofs.EventOutcomes.{fine-number}
 use Rattle.rack.proofs.Floor.{left-fine}
 use Rattle.tell.specs.Lines.{frontText, lineText, quietText}
 use Rattle.tell.specs.Meanings.{answerText}
+use Rattle.trace.specs.Calm.{calmCall}
+use Rattle.trace.specs.Changes.{changesText}
 use Rattle.trace.specs.Owners.{ownersText}
 use Rattle.trace.specs.Words.{whyText}
+use Rattle.trace.proofs.CalmChanges.{calm-changes}
 use Rattle.script.specs.Lines.{drawsFor}
+use Rattle.play.specs.Facts.{Unchanged}
 use Rattle.play.specs.Told.{drawsOf, outcomeOf, left, besideReply, behindReply, meaningRoom, toldText, eventText, Played}
 
 -- ---- beside a reply, by how many answered
@@ -45,6 +49,13 @@ module _ (number : ℕ) (f ds old new answer : List ℕ) (report : Report) {at :
       → Puts (ownersText (carrying s d) ds old) at out out₁ q → Puts (besideReply number f ds old (left report new answer)) at out out₁ q
   unfolding besideReply
   beside-owners z y g k p = rw (ne-eqb (report .answered) 1 z, ne-eqb (report .answered) 0 y) (rw (g, k) at p)
+
+-- ---- behind a reply: a frame that changed nothing that is told
+
+pub behind-calm : (number : ℕ) (old new : List ℕ) {at : ℕ} {out out₁ : List ℕ} {q : ℕ} → number ≡ 3 → changesText old new ≡ [] → Puts [] at out out₁ q
+    → Puts (behindReply number old new) at out out₁ q
+unfolding behindReply
+behind-calm number old new e h p = rw (eq-eqb number 3 e, h) p
 
 -- ---- a rack and a meaning, read from where they were laid
 
@@ -84,6 +95,12 @@ module _ (tags frame draws : List ℕ) (number k : ℕ) (e : k ≡ drawsFor (get
     fine-left ok bt bf bd =
         rw (p .leaves)
         (rack-fine _ (left-fine tags ok number frame (take (k - 0) draws) (replicate least 0) bt bf (bytes-part 0 (k - 0) draws bd)))
+
+    -- what put_told asks, of the rack as it was
+    pub unchanged-left : RackFine tags → (old : List ℕ) → old ≡ tags → Unchanged number (signalOf number frame .label .call) old tags₁
+    unchanged-left ok old q e h =
+        ap₂ changesText q (p .leaves ∙ ap (λ (m : ℕ). eventOf tags m frame (take (k - 0) draws) (replicate least 0) .rack) e)
+        ∙ calm-changes tags ok frame (take (k - 0) draws) (subst (λ (m : ℕ). calmCall (signalOf m frame .label .call) ≡ true) e h) (replicate least 0)
 
     rack-left : tags₁ ≡ outcomeOf tags number frame draws .rack
     rack-left = ap (λ (o : Outcome). o .rack) is-left

@@ -4,6 +4,7 @@ use print::put::put_text;
 use rack::event::LEAST;
 use rack::event::Report;
 use rack::event::event_on;
+use request::label::Call;
 use request::label::data_of;
 use request::signal::hear;
 use script::draws::draws_for;
@@ -11,6 +12,7 @@ use tell::line::put_line;
 use tell::line::put_quiet;
 use tell::meaning::part_of;
 use tell::meaning::put_answer;
+use trace::calm::is_calm;
 use trace::changes::put_changes;
 use trace::owners::put_owners;
 use trace::why::put_why;
@@ -18,7 +20,9 @@ ghost use mathlib.Core.Bool.{true, false};
 ghost use Prim.Native.Nat.{_≤_};
 ghost use lib.ListN.{length};
 ghost use Rattle.print.specs.Puts.{Puts};
+ghost use Rattle.request.specs.Signal.{signalOf};
 ghost use Rattle.rack.specs.Facts.{RackFine};
+ghost use Rattle.play.specs.Facts.{Unchanged};
 ghost use Rattle.play.specs.Told.{left, besideReply, behindReply, toldText, Played};
 
 // More than any meaning has.
@@ -49,12 +53,16 @@ fn put_beside(
     put_owners(out, 0, hear(number, frame), data_of(frame), draws, old)
 }
 
-// What a frame changed.
-fn put_behind(out: &mut [u8], at: usize, number: u8, old: &[u8], tags: &[u8]) -> usize
+// What a frame changed. Most label frames change nothing that is told, and for those the racks, which are long, are not compared.
+fn put_behind(out: &mut [u8], at: usize, number: u8, call: Call, old: &[u8], tags: &[u8]) -> usize
     requires { ⌜ RackFine (now old) × RackFine (now tags) ⌝ }
+    requires { ⌜ Unchanged number call (now old) (now tags) ⌝ }
     ensures { λ r. ⌜ Puts (behindReply number (now (old .entry)) (now (tags .entry))) at (now (out .entry)) (now (out .exit)) r ⌝ }
 {
     if number == 3 {
+        if is_calm(call) {
+            return put_nothing(out, at);
+        }
         return put_changes(out, at, old, tags);
     }
     if number == 5 {
@@ -77,6 +85,7 @@ fn put_told(
     tags: &[u8],
 ) -> usize
     requires { ⌜ RackFine (now old) × RackFine (now tags) ⌝ }
+    requires { ⌜ Unchanged number (signalOf number (now frame) .label .call) (now old) (now tags) ⌝ }
     ensures { λ r. ⌜ Puts (toldText n number (now (frame .entry)) (now (draws .entry)) (now (old .entry))
         (left report (now (tags .entry)) (now (answer .entry)))) at (now (out .entry)) (now (out .exit)) r ⌝ }
 {
@@ -102,7 +111,9 @@ fn put_told(
         answer,
         part_of(&meaning, 0, m),
     );
-    put_behind(out, p, number, old, tags)
+    let request = signal.label;
+    let call = request.call;
+    put_behind(out, p, number, call, old, tags)
 }
 
 // Plays the event that line n asks, and lays all that is said of it; the rack as it was is kept in `old`.

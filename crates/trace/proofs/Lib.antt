@@ -4,3 +4,5 @@ pub mod ReasonWays
 pub mod WhyWords
 pub mod ChangeLaid
 pub mod OwnersTold
+pub mod CalmLabels
+pub mod CalmChanges

@@ -6,4 +6,5 @@ pub mod Change
 pub mod Labels
 pub mod Chips
 pub mod Changes
+pub mod Calm
 pub mod Owners

@@ -1,4 +1,5 @@
 // What an event found and left on the rack, in words: why nobody answered, who did, and what changed.
+pub mod calm;
 mod change;
 pub mod changes;
 mod chips;

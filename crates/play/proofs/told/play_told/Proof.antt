@@ -5,7 +5,7 @@ use mathlib.Core.Path.{_≡_, sym, _∙_}
 use Rattle.frame.specs.Number.{part}
 use Rattle.rack.specs.Facts.{RackFine}
 use Rattle.script.proofs.LinesDraws.{few-inside}
-use Rattle.play.proofs.ToldLeft.{kept, fine-left, played-told}
+use Rattle.play.proofs.ToldLeft.{kept, fine-left, unchanged-left, played-told}
 use Rattle.play.proofs.told.play_told.Statement.{statement}
 use Rattle.play.proofs.told.play_told.Tie as tie
 
@@ -32,7 +32,13 @@ fine c =
     (λ i. k .before .before .shared-slice-known .given i .fits) (λ i. k .shared-slice-known2 .given i .fits)
 
 put-told-requires : tie.Need-put-told-requires
-put-told-requires c κs = (rw (was (c .before)) (start (c .before) .pre .0), fine (c .before))
+put-told-requires c κs =
+    let p = c .before in
+    let a = start p .args in (
+      (rw (was p) (start p .pre .0), fine p),
+      unchanged-left (now (a .tags)) (now (a .frame)) (now (a .draws)) (a .number) _ (drawn p .draws-for .ensures) (played p .event-on .ensures)
+          (start p .pre .0) _ (was p),
+    )
 
 returns : tie.Need-returns
 returns c =

@@ -1,12 +1,31 @@
 -- The meaning is laid by itself first, since the line asks whether there is one. Assumes nothing.
 use borrow.Author.Needs.{needs}
+use mathlib.Core.Path.{sym, subst}
+use denote.Ref.{now}
+use Rattle.request.specs.declared.signal.Signal.{Signal}
+use Rattle.play.specs.Facts.{Unchanged}
 use Rattle.play.proofs.ToldLeft.{meaning-laid, told-laid}
 use Rattle.play.proofs.told.put_told.Statement.{statement}
 use Rattle.play.proofs.told.put_told.Tie as tie
 
+-- from the last call's first argument back to what was heard and to the start
+abbrev listened : tie.After-put-behind-arg → tie.After-hear
+listened c = c .before .before .before .before .before .before .before .before
+
+abbrev start : tie.After-put-behind-arg → tie.Start
+start c = listened c .before .before .before .before .before .before .before .before .before .before
+
+-- what was heard is the frame's signal
+put-behind-requires : tie.Need-put-behind-requires
+put-behind-requires c κs =
+    let a = start c .args in (
+      start c .pre .0,
+      subst (λ (s : Signal). Unchanged (a .number) (s .label .call) (now (a .old)) (now (a .tags))) (sym (listened c .hear .ensures)) (start c .pre .1),
+    )
+
 returns : tie.Need-returns
 returns c =
-    let l = c .before .before .before .before .before .before in
+    let l = c .before .before .before .before .before .before .before in
     let h = l .before .before .before .before in
     told-laid _ _ _ _ _ _ _ _ (h .hear .ensures) (meaning-laid (h .before .before .put-beside .ensures) (l .before .part-of .ensures)) (l .put-line .ensures)
     (c .before .before .put-behind .ensures)
@@ -21,6 +40,6 @@ put-told-spec =
     (λ c. search needs)
     (λ c κs. search needs)
     (λ c κs. search needs)
-    (λ c κs. search needs)
+    put-behind-requires
     (λ c. search needs)
     returns)
