@@ -23,11 +23,11 @@ use Rattle.rack.proofs.EventOutcomes.{fine-number}
 use Rattle.rack.proofs.Floor.{left-fine}
 use Rattle.tell.specs.Lines.{frontText, lineText, quietText}
 use Rattle.tell.specs.Meanings.{answerText}
-use Rattle.trace.specs.Calm.{calmCall}
+use Rattle.trace.specs.Calm.{calmCall, oneCall, Only}
 use Rattle.trace.specs.Changes.{changesText}
 use Rattle.trace.specs.Owners.{ownersText}
 use Rattle.trace.specs.Words.{whyText}
-use Rattle.trace.proofs.CalmChanges.{calm-changes}
+use Rattle.trace.proofs.CalmChanges.{calm-changes, only-owner}
 use Rattle.script.specs.Lines.{drawsFor}
 use Rattle.play.specs.Facts.{Unchanged}
 use Rattle.play.specs.Told.{drawsOf, outcomeOf, left, besideReply, behindReply, meaningRoom, toldText, eventText, Played}
@@ -97,10 +97,17 @@ module _ (tags frame draws : List ℕ) (number k : ℕ) (e : k ≡ drawsFor (get
         (rack-fine _ (left-fine tags ok number frame (take (k - 0) draws) (replicate least 0) bt bf (bytes-part 0 (k - 0) draws bd)))
 
     -- what put_told asks, of the rack as it was
-    pub unchanged-left : RackFine tags → (old : List ℕ) → old ≡ tags → Unchanged number (signalOf number frame .label .call) old tags₁
-    unchanged-left ok old q e h =
-        ap₂ changesText q (p .leaves ∙ ap (λ (m : ℕ). eventOf tags m frame (take (k - 0) draws) (replicate least 0) .rack) e)
-        ∙ calm-changes tags ok frame (take (k - 0) draws) (subst (λ (m : ℕ). calmCall (signalOf m frame .label .call) ≡ true) e h) (replicate least 0)
+    pub unchanged-left : RackFine tags → (old : List ℕ) → old ≡ tags → Unchanged number (signalOf number frame .label) old tags₁
+    unchanged-left ok old q = rw (q, p .leaves) (record { calm = calm; only = only })
+      where
+        behind : ℕ → List ℕ
+        behind m = eventOf tags m frame (take (k - 0) draws) (replicate least 0) .rack
+
+        calm : number ≡ 3 → calmCall (signalOf number frame .label .call) ≡ true → changesText tags (behind number) ≡ []
+        calm e h = rw e (calm-changes tags ok frame (take (k - 0) draws) (rw e at h) (replicate least 0))
+
+        only : number ≡ 3 → Only (oneCall (signalOf number frame .label .call)) (signalOf number frame .label .uid) tags (behind number)
+        only e = rw e (only-owner tags ok frame (take (k - 0) draws) (replicate least 0))
 
     rack-left : tags₁ ≡ outcomeOf tags number frame draws .rack
     rack-left = ap (λ (o : Outcome). o .rack) is-left

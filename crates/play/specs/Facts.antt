@@ -3,10 +3,11 @@ use mathlib.Core.Bool.{true}
 use mathlib.Core.List.{List, []}
 use mathlib.Core.Path.{_≡_}
 use Prim.Native.Nat.{ℕ}
-use Rattle.request.specs.declared.label.Call.{Call}
-use Rattle.trace.specs.Calm.{calmCall}
+use Rattle.request.specs.declared.label.Request.{Request}
+use Rattle.trace.specs.Calm.{calmCall, oneCall, Only}
 use Rattle.trace.specs.Changes.{changesText}
 
--- a calm label frame, between these racks, changed nothing that is told
-abbrev pub Unchanged : ℕ → Call → List ℕ → List ℕ → Type 0
-Unchanged number call old new = number ≡ 3 → calmCall call ≡ true → changesText old new ≡ []
+-- between these racks: behind a calm label frame nothing is told, and behind one for one UID of its owner alone
+pub record Unchanged (number : ℕ) (request : Request) (old new : List ℕ) : Type 0 where
+  pub calm : number ≡ 3 → calmCall (request .call) ≡ true → changesText old new ≡ []
+  pub only : number ≡ 3 → Only (oneCall (request .call)) (request .uid) old new

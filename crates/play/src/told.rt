@@ -4,7 +4,7 @@ use print::put::put_text;
 use rack::event::LEAST;
 use rack::event::Report;
 use rack::event::event_on;
-use request::label::Call;
+use request::label::Request;
 use request::label::data_of;
 use request::signal::hear;
 use script::draws::draws_for;
@@ -13,6 +13,7 @@ use tell::line::put_quiet;
 use tell::meaning::part_of;
 use tell::meaning::put_answer;
 use trace::calm::is_calm;
+use trace::calm::is_one;
 use trace::changes::put_changes;
 use trace::owners::put_owners;
 use trace::why::put_why;
@@ -53,20 +54,30 @@ fn put_beside(
     put_owners(out, 0, hear(number, frame), data_of(frame), draws, old)
 }
 
-// What a frame changed. Most label frames change nothing that is told, and for those the racks, which are long, are not compared.
-fn put_behind(out: &mut [u8], at: usize, number: u8, call: Call, old: &[u8], tags: &[u8]) -> usize
+// What a frame changed. Most label frames change nothing that is told, and others but one label: of the rest the racks, which are long, are not
+// compared.
+fn put_behind(
+    out: &mut [u8],
+    at: usize,
+    number: u8,
+    request: Request,
+    old: &[u8],
+    tags: &[u8],
+) -> usize
     requires { ⌜ RackFine (now old) × RackFine (now tags) ⌝ }
-    requires { ⌜ Unchanged number call (now old) (now tags) ⌝ }
+    requires { ⌜ Unchanged number request (now old) (now tags) ⌝ }
     ensures { λ r. ⌜ Puts (behindReply number (now (old .entry)) (now (tags .entry))) at (now (out .entry)) (now (out .exit)) r ⌝ }
 {
+    let call = request.call;
+    let uid = request.uid;
     if number == 3 {
         if is_calm(call) {
             return put_nothing(out, at);
         }
-        return put_changes(out, at, old, tags);
+        return put_changes(out, at, is_one(call), uid, old, tags);
     }
     if number == 5 {
-        return put_changes(out, at, old, tags);
+        return put_changes(out, at, false, uid, old, tags);
     }
     put_nothing(out, at)
 }
@@ -85,7 +96,7 @@ fn put_told(
     tags: &[u8],
 ) -> usize
     requires { ⌜ RackFine (now old) × RackFine (now tags) ⌝ }
-    requires { ⌜ Unchanged number (signalOf number (now frame) .label .call) (now old) (now tags) ⌝ }
+    requires { ⌜ Unchanged number (signalOf number (now frame) .label) (now old) (now tags) ⌝ }
     ensures { λ r. ⌜ Puts (toldText n number (now (frame .entry)) (now (draws .entry)) (now (old .entry))
         (left report (now (tags .entry)) (now (answer .entry)))) at (now (out .entry)) (now (out .exit)) r ⌝ }
 {
@@ -112,8 +123,7 @@ fn put_told(
         part_of(&meaning, 0, m),
     );
     let request = signal.label;
-    let call = request.call;
-    put_behind(out, p, number, call, old, tags)
+    put_behind(out, p, number, request, old, tags)
 }
 
 // Plays the event that line n asks, and lays all that is said of it; the rack as it was is kept in `old`.

@@ -15,6 +15,7 @@ use Rattle.frame.proofs.Bools.{if-both, if-same}
 use Rattle.frame.proofs.Stores.{sets-off}
 use Rattle.request.specs.Table.{rowOf}
 use Rattle.request.specs.declared.label.Target.{Target}
+use Rattle.request.specs.declared.label.Target.the-variants.{Everyone, Selected, One}
 use Rattle.request.specs.declared.label.Family.{Family}
 use Rattle.request.specs.declared.table.Task.{Task}
 use Rattle.request.specs.declared.table.Task.the-variants as t
@@ -32,7 +33,7 @@ use Rattle.label_body.proofs.BodyStored.{store-seek}
 use Rattle.label_body.proofs.Slots.{seek-length, seek-getD}
 use Rattle.trace.specs.Change.{sameBytes}
 use Rattle.trace.specs.Labels.{labelTold, toldLine, labelLine}
-use Rattle.trace.specs.Calm.{calmTask, calmCall}
+use Rattle.trace.specs.Calm.{calmTask, calmCall, oneTask, oneCall}
 
 -- ---- the step
 
@@ -40,6 +41,10 @@ use Rattle.trace.specs.Calm.{calmTask, calmCall}
 data Still (l : Label) : Stepped → Type 0 where
   stays : (x : Answer) → Still l (told x l)
   seeks : (x : Answer) (s m e : ℕ) → Still l (told x (withSlot s m e l))
+
+not-so : (t : Bool) → not t ≡ true → t ≡ false
+not-so true h = absurd (false≢true h)
+not-so false h = refl
 
 module _ (l : Label) where
   either : (t : Bool) {x y : Stepped} → Still l x → Still l y → Still l (if t then x else y)
@@ -96,6 +101,30 @@ module _ (l : Label) where
   still-called (Fault to code) uid count lock h = awakes _ (still-faulted to uid code)
   still-called (Do to task p option) uid count lock h = awakes _ (still-asked task to uid p option count lock h)
 
+  -- one that a frame for one UID is not for
+  still-past : (task : Task) (uid : List ℕ) (p : ℕ) (option : Bool) (count lock : ℕ) → oneTask One task ≡ true → acts One uid l ≡ false
+      → Still l (asked One uid task p option count lock l)
+  unfolding asked passed oneTask
+  still-past task uid p option count lock o n = rw (n, not-so (eqb (rowOf task .code) 0x25) o) (ends a.Silent)
+
+  still-other : (to : Target) (task : Task) (uid : List ℕ) (p : ℕ) (option : Bool) (count lock : ℕ) → oneTask to task ≡ true → acts One uid l ≡ false
+      → Still l (asked to uid task p option count lock l)
+  unfolding oneTask
+  still-other Everyone task uid p option count lock o n = absurd (false≢true o)
+  still-other Selected task uid p option count lock o n = absurd (false≢true o)
+  still-other One task uid p option count lock o n = still-past task uid p option count lock o n
+
+  other-called : (call : Call) (uid : List ℕ) (count lock : ℕ) → oneCall call ≡ true → acts One uid l ≡ false → Still l (called call uid count lock l)
+  unfolding called oneCall
+  other-called Ignored uid count lock o n = absurd (false≢true o)
+  other-called Off uid count lock o n = absurd (false≢true o)
+  other-called On uid count lock o n = absurd (false≢true o)
+  other-called EndOfFrame uid count lock o n = absurd (false≢true o)
+  other-called Nobody uid count lock o n = absurd (false≢true o)
+  other-called (Inventory family sixteen bits mask) uid count lock o n = absurd (false≢true o)
+  other-called (Fault to code) uid count lock o n = absurd (false≢true o)
+  other-called (Do to task p option) uid count lock o n = awakes _ (still-other to task uid p option count lock o n)
+
 -- ---- the line
 
 -- bytes that are the same at each place
@@ -133,3 +162,8 @@ module _ (bytes b : List ℕ) where
   pub calm-label : (r : Request) → calmCall (r .call) ≡ true → labelLine b (nextLabel r bytes b) ≡ []
   unfolding nextLabel stepped act
   calm-label r h = stilled _ (still-called (loadOf b) (r .call) (r .uid) (length bytes) (named (r .call) b) h)
+
+  -- and one behind a frame for another's UID
+  pub other-label : (r : Request) → oneCall (r .call) ≡ true → eqb (num (r .uid)) (num (part 0 8 b)) ≡ false → labelLine b (nextLabel r bytes b) ≡ []
+  unfolding nextLabel stepped act acts loadOf
+  other-label r o n = stilled _ (other-called (loadOf b) (r .call) (r .uid) (length bytes) (named (r .call) b) o n)

@@ -64,6 +64,14 @@ module _ {f : ℕ → List ℕ} {at : ℕ} {old : List ℕ} {n i p : ℕ} {new :
   unfolding gather
   gathering-on h l = record { upto = omega arith; same = puts-length l ∙ g .same; laid = rw add-one (puts-then (g .laid) l) }
 
+  -- one that lays nothing
+  pub gathering-past : i < n → f i ≡ [] → Gathering f at old n (i + 1) p new
+  unfolding within
+  gathering-past h e =
+      let s = g .same in
+      let k = puts-inside (g .laid) in
+      gathering-on h (rw e (puts-none (rw (le-leb p (length new) (omega arith)) refl)))
+
   pub gathering-done : n ≤ i → {m : ℕ} → n ≡ m → Puts (gather m f) at old new p
   gathering-done h q = let u = g .upto in let e : i ≡ n = omega arith in puts-by (g .laid) (ap (λ (k : ℕ). gather k f) (e ∙ q))
 

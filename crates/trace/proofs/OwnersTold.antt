@@ -4,19 +4,17 @@ use mathlib.Core.Bool.{Bool, true, false, _||_}
 use mathlib.Core.List.{List, []}
 use Prim.Native.Nat.{ℕ, _+_, _≤_, _<_}
 use native.Mathlib.Numerals.{add-one}
-use native.Mathlib.Omega.{arith}
-use borrow.Author.Tests.{le-leb}
 use lib.ListN.{length}
 use Rattle.frame.specs.Choose.{if_then_else_, gather}
 use Rattle.frame.proofs.Bools.{or-right}
 use Rattle.print.specs.Puts.{within, Puts}
-use Rattle.print.proofs.Puts.{puts-by, puts-inside}
+use Rattle.print.proofs.Puts.{puts-by}
 use Rattle.rack.specs.File.{countOf, kindAt}
 use Rattle.rack.specs.Facts.{bodyOf}
 use Rattle.rack.specs.Event.{Event}
 use Rattle.trace.specs.Question.{some}
 use Rattle.trace.specs.Owners.{answersAt, ownerText, ownerAt, ownersText}
-use Rattle.trace.proofs.ChangeLaid.{Gathering, gathering-none, gathering-on, gathering-done, puts-none}
+use Rattle.trace.proofs.ChangeLaid.{Gathering, gathering-none, gathering-on, gathering-past, gathering-done}
 
 -- the tags before i are told, and `more` says whether one of them answered
 pub record Owning (event : Event) (ds r : List ℕ) (at : ℕ) (old : List ℕ) (n i p : ℕ) (more : Bool) (new : List ℕ) : Type 0 where
@@ -31,10 +29,6 @@ module _ (event : Event) (ds r : List ℕ) where
 or-no : (t : Bool) → (t || false) ≡ t
 or-no true = refl
 or-no false = refl
-
-stays : (new : List ℕ) (p : ℕ) → p ≤ length new → Puts [] p new new p
-unfolding within
-stays new p h = puts-none (rw (le-leb p (length new) h) refl)
 
 module _ {event : Event} {ds r : List ℕ} {at : ℕ} {old : List ℕ} {n i p : ℕ} {more : Bool} {new : List ℕ} (o : Owning event ds r at old n i p more new)
     (h : i < n) {t : Bool} (e : t ≡ answersAt event ds r i) where
@@ -52,10 +46,8 @@ module _ {event : Event} {ds r : List ℕ} {at : ℕ} {old : List ℕ} {n i p : 
   unfolding some
   owning-past y =
       let a : answersAt event ds r i ≡ false = sym e ∙ y in
-      let m = o .laid .same in
-      let k = puts-inside (o .laid .laid) in
       record {
-        laid = gathering-on (o .laid) h (rw a (stays new p (omega arith)));
+        laid = gathering-past (o .laid) h (rw a refl);
         before = rw (add-one, a) (o .before ∙ sym (or-no (some i (answersAt event ds r))));
       }
 

@@ -20,7 +20,7 @@ put-behind-requires : tie.Need-put-behind-requires
 put-behind-requires c κs =
     let a = start c .args in (
       start c .pre .0,
-      subst (λ (s : Signal). Unchanged (a .number) (s .label .call) (now (a .old)) (now (a .tags))) (sym (listened c .hear .ensures)) (start c .pre .1),
+      subst (λ (s : Signal). Unchanged (a .number) (s .label) (now (a .old)) (now (a .tags))) (sym (listened c .hear .ensures)) (start c .pre .1),
     )
 
 returns : tie.Need-returns

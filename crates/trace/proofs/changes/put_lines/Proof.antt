@@ -1,22 +1,23 @@
--- The lines of the tags before the one reached are laid. Assumes nothing.
+-- The lines of the tags before the one reached are laid; one that may have none has none. Assumes nothing.
 use denote.Ref.{now}
-use mathlib.Core.Path.{sym, _∙_}
-use Prim.Native.Nat.{_-_}
-use Rattle.print.proofs.Puts.{puts-by}
-use Rattle.rack.specs.File.{kindAt}
+use mathlib.Core.Logic.{⊎-elim}
+use mathlib.Core.Path.{_≡_, sym, _∙_}
+use native.Mathlib.Omega.{arith}
+use Prim.Native.Nat.{_-_, _<_}
+use Rattle.rack.specs.File.{countOf, kindAt}
 use Rattle.rack.specs.Facts.{bodyOf}
+use Rattle.trace.specs.Calm.{Only}
 use Rattle.trace.specs.Changes.{tagLine, linesText}
-use Rattle.trace.proofs.QuestionTags.{entry-there, body-there, tag-there}
-use Rattle.trace.proofs.ChangeLaid.{Gathering, gathering-none, gathering-on, gathering-done, line-by}
+use Rattle.trace.proofs.ChangeLaid.{Gathering, gathering-none, gathering-on, gathering-past, gathering-done}
 use borrow.Author.Needs.{needs}
 use Rattle.trace.proofs.changes.put_lines.Statement.{statement}
 use Rattle.trace.proofs.changes.put_lines.Tie as tie
 
 abbrev Inv-loop : tie.InvT-loop
-Inv-loop out₀ at old new n p₀ i₀ out p i = Gathering (λ j. tagLine (kindAt new j) (bodyOf old j) (bodyOf new j)) at out₀ n i p out
+Inv-loop out₀ at one uid old new n p₀ i₀ out p i = Gathering (λ j. tagLine (kindAt new j) (bodyOf old j) (bodyOf new j)) at out₀ n i p out
 
 abbrev μ-loop : tie.MeasureT-loop
-μ-loop out₀ at old new n p₀ i₀ out p i = n - i
+μ-loop out₀ at one uid old new n p₀ i₀ out p i = n - i
 
 abbrev counted : tie.In-loop Inv-loop μ-loop → tie.After-count Inv-loop μ-loop
 counted c = c .before .before .before
@@ -24,40 +25,27 @@ counted c = c .before .before .before
 abbrev start : tie.In-loop Inv-loop μ-loop → tie.Start Inv-loop μ-loop
 start c = counted c .before .before .before .before
 
-kind-of-requires : tie.Need-kind-of-requires Inv-loop μ-loop
-kind-of-requires c κs = entry-there (now (start c .args .new)) (start c .pre .0 .1) (counted c .count .ensures) (c .loop-test .taken)
+-- the tag reached is there, on both racks
+in-new : (c : tie.In-loop Inv-loop μ-loop) → c .before .loop .i < countOf (now (start c .args .new))
+in-new c = omega (arith, counted c .count .ensures, c .loop-test .taken)
 
-body-of-requires : tie.Need-body-of-requires Inv-loop μ-loop
-body-of-requires c κs =
-    let l = c .before .before in
-    let r = now (start l .args .old) in
-    let n = counted l .count .ensures ∙ sym (start l .pre .1) in
-    (entry-there r (start l .pre .0 .0) n (l .loop-test .taken), body-there r (start l .pre .0 .0) n (l .loop-test .taken))
+in-old : (c : tie.In-loop Inv-loop μ-loop) → c .before .loop .i < countOf (now (start c .args .old))
+in-old c = omega (arith, in-new c, start c .pre .1 .0)
 
-body-of-requires-2 : tie.Need-body-of-requires-2 Inv-loop μ-loop
-body-of-requires-2 c κs =
+put-line-at-requires : tie.Need-put-line-at-requires Inv-loop μ-loop
+put-line-at-requires c κs =
     let l = c .before .before .before in
-    let r = now (start l .args .new) in
-    let n = counted l .count .ensures in
-    (entry-there r (start l .pre .0 .1) n (l .loop-test .taken), body-there r (start l .pre .0 .1) n (l .loop-test .taken))
-
-put-tag-line-requires : tie.Need-put-tag-line-requires Inv-loop μ-loop
-put-tag-line-requires c κs =
-    let k = c .before .before .before in
-    let l = k .before in
-    rw (k .kind-of .ensures)
-    (tag-there (now (start l .args .new)) (start l .pre .0 .1) (counted l .count .ensures) (l .loop-test .taken) _ (c .body-of2 .ensures))
+    (start l .pre .0 .0, start l .pre .0 .1, in-old l, in-new l)
 
 loop-again : tie.Need-loop-again Inv-loop μ-loop
+unfolding Only
 loop-again c =
-    let p = c .before .before in
-    let b = p .before in
-    let k = b .before .before .before in
-    let l = k .before in
-    gathering-on (l .before .loop .inv) (l .loop-test .taken)
-    (puts-by (p .put-tag-line .ensures)
-    (line-by (now (start l .args .old)) (now (start l .args .new)) (l .before .loop .i) (k .kind-of .ensures) (b .before .body-of .ensures)
-    (b .body-of2 .ensures)))
+    let l = c .before .before in
+    let g = l .before .loop .inv in
+    let h = l .loop-test .taken in
+    ⊎-elim (λ w. rw (w .5, w .6) (gathering-on g h (w .2 .ensures)))
+    (λ w. rw (w .1, w .2) (gathering-past g h (start l .pre .1 .1 (l .before .loop .i) (in-new l) (sym (c .before .may-have-line .ensures) ∙ w .0 .left))))
+    (c .if1 .came)
 
 returns : tie.Need-returns Inv-loop μ-loop
 unfolding linesText
@@ -72,12 +60,10 @@ put-lines-spec =
     (λ c κs. c .before .before .before .pre .0 .1 .head .two-bytes)
     (λ c κs. search needs)
     (λ c. gathering-none _ _ _ _ (c .inside .ensures))
-    kind-of-requires
-    body-of-requires
-    body-of-requires-2
-    put-tag-line-requires
+    (λ c κs. (start c .pre .0 .0, in-old c))
+    put-line-at-requires
     (λ c. search needs)
     (λ c. search needs)
     loop-again
-    (λ c. search needs)
+    (λ c. c .before .loop .inv .same)
     returns)
