@@ -39,7 +39,7 @@ use Rattle.rack.specs.Facts.{RackFine, TagFine}
 use Rattle.rack.specs.Event.{Event, aired, nextBody, saidBy, speaks, frameOf, answerBody, next, answer, nextRack, answers}
 use Rattle.rack.specs.Event.{Outcome, played, least, refusalOf, eventOf}
 use Rattle.rack.proofs.FileVerdict.{rack-fine, fine-rack}
-use Rattle.rack.proofs.FilePlaces.{gather-ext}
+use Rattle.frame.proofs.Gather.{gather-ext}
 use Rattle.rack.proofs.FileRebuilt.{rebuilt-ext}
 use Rattle.rack.proofs.EventTags.{fits-none, chip-80}
 use Rattle.rack.proofs.Pass.{length-zero, tag-fine}

@@ -11,6 +11,7 @@ use lib.ListN.{length}
 use Rattle.frame.specs.Choose.{if_then_else_}
 use Rattle.frame.specs.CheckSum.{framed}
 use Rattle.request.specs.declared.label.Family.{Family}
+use Rattle.request.specs.declared.label.Params.{Params}
 use Rattle.request.specs.declared.label.Target.{Target}
 use Rattle.request.specs.declared.label.Target.the-variants.{Everyone, Selected}
 use Rattle.request.specs.Table.{rowOf}
@@ -73,25 +74,27 @@ blind-other kind code = record { sent = λ u v d. refl; heard = λ u v a. refl }
 abbrev others : Bool → Target
 others everyone = if everyone then Everyone else Selected
 
-blind-success : (e option : Bool) (x : Success) (u v c : List ℕ) → successOf (others e) option x u c ≡ successOf (others e) option x v c
+blind-success : (e option : Bool) (x : Success) (more : ℕ) (u v c : List ℕ) → successOf (others e) option x more u c ≡ successOf (others e) option x more v c
 unfolding successOf infoOf
-blind-success true option s.Info u v c = refl
-blind-success false option s.Info u v c = refl
-blind-success e option s.Never u v c = refl
-blind-success e option s.Done u v c = refl
-blind-success e option s.Block u v c = refl
+blind-success true option s.Info more u v c = refl
+blind-success false option s.Info more u v c = refl
+blind-success e option s.Never more u v c = refl
+blind-success e option s.Done more u v c = refl
+blind-success e option s.Block more u v c = refl
+blind-success e option s.Blocks more u v c = refl
+blind-success e option s.Locks more u v c = refl
 
-blind-label : (e option : Bool) (task : Task) (p : ℕ) → Blind (Label (others e) option task p)
+blind-label : (e option : Bool) (task : Task) (p : Params) → Blind (Label (others e) option task p)
 unfolding content shapeOf labelReading
 blind-label true option task p =
-    record { sent = λ u v d. refl; heard = λ u v a. rw (blind-success true option (rowOf task .success) u v a) refl }
+    record { sent = λ u v d. refl; heard = λ u v a. rw (blind-success true option (rowOf task .success) (p .second) u v a) refl }
 blind-label false option task p =
-    record { sent = λ u v d. refl; heard = λ u v a. rw (blind-success false option (rowOf task .success) u v a) refl }
+    record { sent = λ u v d. refl; heard = λ u v a. rw (blind-success false option (rowOf task .success) (p .second) u v a) refl }
 
-blind-task : (x : Found) (e option : Bool) (byte : ℕ) → Blind (taskCommand x (others e) option byte)
+blind-task : (x : Found) (e option : Bool) (p : Params) → Blind (taskCommand x (others e) option p)
 unfolding taskCommand
-blind-task (Known row) e option byte = blind-label e option (row .task) byte
-blind-task Missing e option byte = blind-other 1 0
+blind-task (Known row) e option p = blind-label e option (row .task) p
+blind-task Missing e option p = blind-other 1 0
 
 blind-code : (code : ℕ) (to : Target) (option : Bool) (byte : ℕ) → Blind (chipCommand code to option byte)
 unfolding chipCommand

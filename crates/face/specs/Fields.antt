@@ -10,6 +10,8 @@ use Rattle.request.specs.declared.label.Family.{Family}
 use Rattle.request.specs.declared.label.Family.the-variants.{Any, Only}
 use Rattle.request.specs.declared.label.Target.{Target}
 use Rattle.request.specs.declared.label.Target.the-variants.{Everyone, Selected, One}
+use Rattle.request.specs.Label.{both}
+use Rattle.request.specs.declared.label.Params.{Params}
 use Rattle.request.specs.Table.{table, lookup}
 use Rattle.request.specs.declared.table.Found.{Found}
 use Rattle.request.specs.declared.table.Found.the-variants.{Known, Missing}
@@ -28,9 +30,9 @@ unfoldable pub targetOf : ℕ → Target
 targetOf n = if eqb n 0 then Everyone else if eqb n 1 then Selected else One
 
 -- a label's command by its code's row, Inventory beside
-unfoldable pub taskCommand : Found → Target → Bool → ℕ → Command
-taskCommand (Known row) to option byte = Label to option (row .task) byte
-taskCommand Missing to option byte = Other 1 0
+unfoldable pub taskCommand : Found → Target → Bool → Params → Command
+taskCommand (Known row) to option p = Label to option (row .task) p
+taskCommand Missing to option p = Other 1 0
 
 -- a chip's command by its code: both bytes of those that begin with 06, the slot marker's alone is 06
 unfoldable pub chipCommand : ℕ → Target → Bool → ℕ → Command
@@ -50,7 +52,7 @@ chipCommand code to option byte =
 unfoldable pub labelCommand : Fields → Target → Command
 labelCommand f to =
     if eqb (f .code) 0x01 then Inventory to (f .option) (familyOf (f .given) (f .afi)) (f .sixteen) (f .bits) (f .mask)
-    else taskCommand (lookup (f .code) table) to (f .option) (f .byte)
+    else taskCommand (lookup (f .code) table) to (f .option) (both (f .byte) (f .more))
 
 -- kind 1 is labels, 2 is chips; a target over 2 names no command
 unfoldable pub commandOf : Fields → Command

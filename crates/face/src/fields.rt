@@ -3,15 +3,17 @@ use frame::uid::uid_at;
 use reader::command::ChipTask;
 use reader::command::Command;
 use request::label::Family;
+use request::label::Params;
 use request::label::Target;
 use request::table::Found;
 use request::table::find;
 ghost use mathlib.Core.Path.{_≡_};
 ghost use Rattle.request.specs.Table.{table, lookup};
+ghost use Rattle.request.specs.Label.{both};
 ghost use Rattle.face.specs.Fields.{familyOf, targetOf, taskCommand, chipCommand, labelCommand, commandOf, uidOf, commandFor};
 
 // A command's numbers; which of them count depends on the command. given says whether there is an AFI;
-// byte is a block, an address, a slot, a Chip_ID or a value to write.
+// byte is a block, an address, a slot, a Chip_ID or a value to write; more is how many blocks are asked for behind that one.
 #[repr(C)]
 pub struct Fields {
     pub kind: u8,
@@ -24,6 +26,7 @@ pub struct Fields {
     pub byte: u8,
     pub code: u16,
     pub mask: u64,
+    pub more: u8,
 }
 
 // The family asked for: an AFI byte, or none.
@@ -49,8 +52,8 @@ fn target_of(n: u8) -> Target
 }
 
 // A label's command by its code, Inventory beside.
-fn task_command(code: u16, to: Target, option: bool, byte: u8) -> Command
-    ensures { λ r. ⌜ r ≡ taskCommand (lookup code table) to option byte ⌝ }
+fn task_command(code: u16, to: Target, option: bool, byte: u8, more: u8) -> Command
+    ensures { λ r. ⌜ r ≡ taskCommand (lookup code table) to option (both byte more) ⌝ }
 {
     if 255 < code {
         return Command::Other(1, 0);
@@ -60,7 +63,11 @@ fn task_command(code: u16, to: Target, option: bool, byte: u8) -> Command
         return Command::Other(1, 0);
     };
     let task = row.task;
-    Command::Label(to, option, task, byte)
+    let p = Params {
+        first: byte,
+        second: more,
+    };
+    Command::Label(to, option, task, p)
 }
 
 fn chip_command(code: u16, to: Target, option: bool, byte: u8) -> Command
@@ -87,7 +94,7 @@ fn label_command(f: Fields, to: Target) -> Command
         let family = family_of(f.given, f.afi);
         return Command::Inventory(to, f.option, family, f.sixteen, f.bits, f.mask);
     }
-    task_command(f.code, to, f.option, f.byte)
+    task_command(f.code, to, f.option, f.byte, f.more)
 }
 
 pub fn command_of(f: Fields) -> Command

@@ -20,11 +20,12 @@ pub struct Told {
     pub place: usize,
     pub length: usize,
     pub uid: u64,
+    pub count: usize,
 }
 
 // A meaning with nothing beside it.
 fn bare(meaning: u8) -> Told
-    ensures { λ r. ⌜ r ≡ toldBy 0 meaning 0 0 0 0 0 0 0 0 0 0 0 0 ⌝ }
+    ensures { λ r. ⌜ r ≡ toldBy 0 meaning 0 0 0 0 0 0 0 0 0 0 0 0 0 ⌝ }
 {
     Told {
         number: 0,
@@ -41,39 +42,40 @@ fn bare(meaning: u8) -> Told
         place: 0,
         length: 0,
         uid: 0,
+        count: 0,
     }
 }
 
 fn refused(number: u8) -> Told
-    ensures { λ r. ⌜ r ≡ toldBy number 0 0 0 0 0 0 0 0 0 0 0 0 0 ⌝ }
+    ensures { λ r. ⌜ r ≡ toldBy number 0 0 0 0 0 0 0 0 0 0 0 0 0 0 ⌝ }
 {
     let t = bare(0);
     Told { number, ..t }
 }
 
 fn error(error: u8) -> Told
-    ensures { λ r. ⌜ r ≡ toldBy 0 1 error 0 0 0 0 0 0 0 0 0 0 0 ⌝ }
+    ensures { λ r. ⌜ r ≡ toldBy 0 1 error 0 0 0 0 0 0 0 0 0 0 0 0 ⌝ }
 {
     let t = bare(1);
     Told { error, ..t }
 }
 
 fn found(dsfid: u8, uid: u64) -> Told
-    ensures { λ r. ⌜ r ≡ toldBy 0 3 0 dsfid 0 0 0 0 0 0 0 0 0 uid ⌝ }
+    ensures { λ r. ⌜ r ≡ toldBy 0 3 0 dsfid 0 0 0 0 0 0 0 0 0 uid 0 ⌝ }
 {
     let t = bare(3);
     Told { dsfid, uid, ..t }
 }
 
 fn block(place: usize, length: usize) -> Told
-    ensures { λ r. ⌜ r ≡ toldBy 0 4 0 0 0 0 0 0 0 0 0 place «length» 0 ⌝ }
+    ensures { λ r. ⌜ r ≡ toldBy 0 4 0 0 0 0 0 0 0 0 0 place «length» 0 0 ⌝ }
 {
     let t = bare(4);
     Told { place, length, ..t }
 }
 
 fn locked_block(lock: u8, place: usize, length: usize) -> Told
-    ensures { λ r. ⌜ r ≡ toldBy 0 5 0 0 0 0 0 0 lock 0 0 place «length» 0 ⌝ }
+    ensures { λ r. ⌜ r ≡ toldBy 0 5 0 0 0 0 0 0 lock 0 0 place «length» 0 0 ⌝ }
 {
     let t = bare(5);
     Told {
@@ -85,7 +87,7 @@ fn locked_block(lock: u8, place: usize, length: usize) -> Told
 }
 
 fn info(dsfid: u8, afi: u8, blocks: u8, size: u8, ic: u8, uid: u64) -> Told
-    ensures { λ r. ⌜ r ≡ toldBy 0 6 0 dsfid afi blocks size ic 0 0 0 0 0 uid ⌝ }
+    ensures { λ r. ⌜ r ≡ toldBy 0 6 0 dsfid afi blocks size ic 0 0 0 0 0 uid 0 ⌝ }
 {
     let t = bare(6);
     Told {
@@ -100,24 +102,37 @@ fn info(dsfid: u8, afi: u8, blocks: u8, size: u8, ic: u8, uid: u64) -> Told
 }
 
 fn chip_id(id: u8) -> Told
-    ensures { λ r. ⌜ r ≡ toldBy 0 7 0 0 0 0 0 0 0 id 0 0 0 0 ⌝ }
+    ensures { λ r. ⌜ r ≡ toldBy 0 7 0 0 0 0 0 0 0 id 0 0 0 0 0 ⌝ }
 {
     let t = bare(7);
     Told { id, ..t }
 }
 
 fn word(word: u32) -> Told
-    ensures { λ r. ⌜ r ≡ toldBy 0 8 0 0 0 0 0 0 0 0 word 0 0 0 ⌝ }
+    ensures { λ r. ⌜ r ≡ toldBy 0 8 0 0 0 0 0 0 0 0 word 0 0 0 0 ⌝ }
 {
     let t = bare(8);
     Told { word, ..t }
 }
 
 fn chip_uid(uid: u64) -> Told
-    ensures { λ r. ⌜ r ≡ toldBy 0 9 0 0 0 0 0 0 0 0 0 0 0 uid ⌝ }
+    ensures { λ r. ⌜ r ≡ toldBy 0 9 0 0 0 0 0 0 0 0 0 0 0 uid 0 ⌝ }
 {
     let t = bare(9);
     Told { uid, ..t }
+}
+
+// Several blocks, or their lock bytes: the place of the first, the length of each, how many.
+fn several(meaning: u8, place: usize, length: usize, count: usize) -> Told
+    ensures { λ r. ⌜ r ≡ toldBy 0 meaning 0 0 0 0 0 0 0 0 0 place «length» 0 count ⌝ }
+{
+    let t = bare(meaning);
+    Told {
+        place,
+        length,
+        count,
+        ..t
+    }
 }
 
 pub fn tell(meaning: Meaning, uid: u64) -> Told
@@ -134,5 +149,8 @@ pub fn tell(meaning: Meaning, uid: u64) -> Told
         Meaning::Id(id) => chip_id(id),
         Meaning::Word(w) => word(w),
         Meaning::Uid => chip_uid(uid),
+        Meaning::Blocks(at, n, count) => several(10, at, n, count),
+        Meaning::LocksAndBlocks(at, n, count) => several(11, at, n, count),
+        Meaning::Locks(at, count) => several(12, at, 1, count),
     }
 }

@@ -39,6 +39,10 @@ same-or-not m n = go (eqb m n) (eqb-true m n) (eqb-false m n)
 
 -- ---- and, or
 
+pub and-false : (a : Bool) → (a && false) ≡ false
+and-false true = refl
+and-false false = refl
+
 pub and-both : (a b : Bool) → (a && b) ≡ true → (a ≡ true) × (b ≡ true)
 and-both true b e = (refl, e)
 and-both false b e = absurd (false≢true e)

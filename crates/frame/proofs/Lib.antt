@@ -5,6 +5,8 @@ pub mod Lists
 pub mod Xor
 pub mod Linear
 pub mod Numbers
+pub mod Gather
+pub mod AllOf
 pub mod CheckSumRegister
 pub mod CheckSumFrames
 pub mod CheckSumVectors

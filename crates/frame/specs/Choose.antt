@@ -1,5 +1,5 @@
 -- A choice by a test, and a bit of a number. Assumes nothing.
-use mathlib.Core.Bool.{Bool, true, false}
+use mathlib.Core.Bool.{Bool, true, false, _&&_}
 use mathlib.Core.List.{List, [], _++_}
 use Prim.Native.Nat.{ℕ, zero, suc, _/_, _%_, _^_}
 use lib.Dec.{eqb}
@@ -16,6 +16,11 @@ bit k x = x / 2 ^ k % 2
 -- a bit as a test
 abbrev pub set? : ℕ → Bool
 set? b = eqb b 1
+
+-- f 0, f 1, .. and f (n - 1)
+unfoldable pub allOf : ℕ → (ℕ → Bool) → Bool
+allOf zero f = true
+allOf (suc n) f = allOf n f && f n
 
 -- f 0 ++ f 1 ++ .. ++ f (n - 1)
 unfoldable pub gather : {A : Type 0} → ℕ → (ℕ → List A) → List A

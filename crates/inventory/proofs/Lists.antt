@@ -31,24 +31,11 @@ gather-at (suc n) f s h =
     (λ (q : s < n). List·getD-append (gather n (λ i. f i ∷ [])) (f n ∷ []) 0 s (omega arith) ∙ gather-at n f s q)
     (eq-or-lt-of-le b))
 
-gather-grows : {A : Type 0} (n i : ℕ) (f : ℕ → List A) → length (gather i f) ≤ length (gather (i + n) f)
-gather-grows zero i f = rw add-zero (omega arith)
-gather-grows (suc n) i f = rw (add-suc, gather-suc, length-append) (omega (arith, gather-grows n i f))
-
-pub gather-within : {A : Type 0} (i n : ℕ) (f : ℕ → List A) → i ≤ n → length (gather i f) ≤ length (gather n f)
-gather-within i n f h =
-    let e : i + (n - i) ≡ n = omega arith in
-    subst (λ (k : ℕ). length (gather i f) ≤ length (gather k f)) e (gather-grows (n - i) i f)
-
 -- at most one a place
 pub gather-few : (n : ℕ) (f : ℕ → List ℕ) → ((i : ℕ) → length (f i) ≤ 1) → length (gather n f) ≤ n
 unfolding gather
 gather-few zero f h = omega arith
 gather-few (suc n) f h = omega (arith, length-append (gather n f) (f n), gather-few n f h, h n)
-
-pub gather-split : (b a : ℕ) (f : ℕ → List ℕ) → gather (a + b) f ≡ gather a f ++ gather b (λ t. f (a + t))
-gather-split zero a f = rw (add-zero, gather-none, append-nil) refl
-gather-split (suc b) a f = rw (add-suc, gather-suc, gather-suc, gather-split b a f) (append-assoc (gather a f) (gather b (λ t. f (a + t))) (f (a + b)))
 
 -- nothing added from s on
 pub gather-still : (n s : ℕ) (g : ℕ → List ℕ) → s ≤ n → ((q : ℕ) → s ≤ q → q < n → g q ≡ []) → gather n g ≡ gather s g

@@ -14,7 +14,7 @@ use lib.Seq.{sets, length-sets, drop-drop}
 use Rattle.frame.specs.Choose.{gather}
 use Rattle.frame.specs.Number.{part}
 use Rattle.frame.proofs.Puts.{sets-append}
-use Rattle.rack.proofs.FilePlaces.{gather-ext}
+use Rattle.frame.proofs.Gather.{gather-ext}
 use Rattle.inventory.specs.Endings.{sumTo}
 use Rattle.inventory.specs.Walk.{depth}
 use Rattle.inventory.specs.Numbers.{slotBits, inSlot, slotted, leading, only, ifs, lone, singles, collides, listOf, roundsOf}

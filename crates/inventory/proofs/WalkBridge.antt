@@ -17,7 +17,7 @@ use Rattle.inventory.specs.Numbers.{inSlot, only, ifs, lone, singles, co
 use Rattle.inventory.proofs.EndingsSums.{sum-ext, sum-zero}
 use Rattle.inventory.proofs.EndingsTrie.{members, mask, split, mask-lt}
 use Rattle.inventory.proofs.EndingsWalks.{rounds, listing}
-use Rattle.rack.proofs.FilePlaces.{gather-ext}
+use Rattle.frame.proofs.Gather.{gather-ext}
 use Rattle.inventory.proofs.Lists.{gather-at}
 use Rattle.inventory.proofs.PromiseFlat.{flat-append, flat-none, flat-gather}
 use Rattle.inventory.proofs.WalkEvents.{Fine, Lent, lent-same}

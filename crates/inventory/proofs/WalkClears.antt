@@ -14,7 +14,8 @@ use Rattle.request.specs.declared.label.Family.{Family}
 use Rattle.rack.specs.File.{Kind}
 use Rattle.rack.specs.File.{countOf, entryAt, kindAt, lengthAt, startOf, bodyAt, contents, rebuilt, lengthFits}
 use Rattle.inventory.specs.Walk.{uidAt, uidsTo, uids, clearBody, cleared}
-use Rattle.rack.proofs.FilePlaces.{gather-ext, part-at, splice-at, start-none, start-more, kind-same, length-same}
+use Rattle.frame.proofs.Gather.{gather-ext}
+use Rattle.rack.proofs.FilePlaces.{part-at, splice-at, start-none, start-more, kind-same, length-same}
 use Rattle.rack.proofs.FileRebuilt.{contents-length, body-inside, body-long, front-length}
 use Rattle.rack.proofs.FileRebuilt.{rebuilt-bytes, rebuilt-ext, rebuilt-count, rebuilt-kind, rebuilt-body, rebuilt-again}
 use Rattle.inventory.proofs.WalkBodies.{clear-size, clear-twice, clear-uidAt, clear-ok}

@@ -24,7 +24,7 @@ use Rattle.rack.specs.Event.{Event, aired, next, answer, nextRack, answers, pla
 use Rattle.inventory.specs.Walk.{PerEvent, request}
 use Rattle.inventory.proofs.WalkSent.{event}
 use Rattle.request.proofs.LabelFramed.{sixteen-back, sixteen-afi-back}
-use Rattle.rack.proofs.FilePlaces.{gather-ext}
+use Rattle.frame.proofs.Gather.{gather-ext}
 use Rattle.rack.proofs.FileRebuilt.{rebuilt-ext}
 use Rattle.rack.proofs.FileRebuilt as rebuilt
 use Rattle.rack.proofs.FileVerdict.{fine-rack}

@@ -15,7 +15,7 @@ use Rattle.rack.specs.Facts.{RackFine}
 use Rattle.rack.specs.Event.{Outcome, nextRack, answers, opened, played, eventOf}
 use Rattle.inventory.specs.Walk.{PerEvent, slotOutcome, hits, cleared}
 use Rattle.inventory.proofs.WalkSent.{event}
-use Rattle.rack.proofs.FilePlaces.{gather-ext}
+use Rattle.frame.proofs.Gather.{gather-ext}
 use Rattle.rack.proofs.FileRebuilt.{body-long, rebuilt-ext, rebuilt-count}
 use Rattle.rack.proofs.EventNext.{next-rebuilt, answers-rebuilt}
 use Rattle.inventory.proofs.WalkBodies.{duringBody, called, spoken, body-step, body-last, answer-step, during-size, during-part, during-rules}

@@ -33,7 +33,8 @@ use Rattle.inventory.specs.Walk.{PerEvent, slotOutcome, hits, uidAt, uid
 use Rattle.inventory.specs.Promise.{flat}
 use Rattle.inventory.proofs.WalkSent.{uidAlone}
 use Rattle.label_body.proofs.Slots.{found-frame}
-use Rattle.rack.proofs.FilePlaces.{gather-ext, part-in}
+use Rattle.frame.proofs.Gather.{gather-ext}
+use Rattle.rack.proofs.FilePlaces.{part-in}
 use Rattle.inventory.proofs.Lists.{map-gather, Each, each-gather, gather-few}
 use Rattle.inventory.proofs.EndingsTwice.{Distinct}
 use Rattle.inventory.proofs.EndingsWalks.{Below, count-append}

@@ -20,7 +20,7 @@ but one a (suc n) = if eqb a one then but one (suc a) n else a ∷ but one (suc 
 
 -- the tasks but Select
 abbrev unselect : List ℕ
-unselect = but (tagOf task-type t.Select) 0 11
+unselect = but (tagOf task-type t.Select) 0 13
 
 pub passed-by : (x : Task) (l : Label) → OneOf unselect (tagOf task-type x) → silent l ≡ passed x l
 unfolding passed rowOf
@@ -28,6 +28,7 @@ passed-by t.Quiet l o = refl
 passed-by t.Read l o = refl
 passed-by t.Write l o = refl
 passed-by t.Lock l o = refl
+passed-by t.ReadMany l o = refl
 passed-by t.Select l o = absurd (miss unselect (tagOf task-type t.Select) tt o)
 passed-by t.Ready l o = refl
 passed-by t.WriteAfi l o = refl
@@ -35,3 +36,4 @@ passed-by t.LockAfi l o = refl
 passed-by t.WriteDsfid l o = refl
 passed-by t.LockDsfid l o = refl
 passed-by t.Info l o = refl
+passed-by t.Status l o = refl

@@ -1,4 +1,4 @@
--- Document 01, "Labels" and "Events": what a label does with a request, and what it answers. Assumes nothing.
+-- Document 01, "Labels" and "Events", and document 02, P1 and P2: what a label does with a request, and what it answers. Assumes nothing.
 use mathlib.Core.Bool.{Bool, true, false, not, _&&_, _||_}
 use mathlib.Core.List.{List}
 use Prim.Native.Nat.{ℕ, _+_, _/_, _%_}
@@ -13,6 +13,7 @@ use Rattle.request.specs.declared.label.Family.the-variants.{Any, Only}
 use Rattle.request.specs.Table.{rowOf}
 use Rattle.request.specs.declared.table.Task.{Task}
 use Rattle.request.specs.declared.table.Task.the-variants as t
+use Rattle.request.specs.declared.label.Params.{Params}
 use Rattle.request.specs.declared.label.Call.{Call}
 use Rattle.request.specs.declared.label.Call.the-variants.{Ignored, Off, On, EndOfFrame, Nobody, Inventory, Fault, Do}
 use Rattle.request.specs.declared.label.Request.{Request}
@@ -134,6 +135,18 @@ acts One uid l = eqb (num uid) (num (l .uid))
 unfoldable pub readBlock : ℕ → Bool → Label → Stepped
 readBlock n lock l = if ltb (l .blocks) n then failed 0x10 l else told (a.Block n lock) l
 
+-- document 02, P2: block n and so many more behind it, each with its lock byte before it if Option
+abbrev pub several : Bool → ℕ → ℕ → Answer
+several true n more = a.LocksAndBlocks n more
+several false n more = a.Blocks n more
+
+-- any of them past the end, 10; their sum is no byte
+unfoldable pub readBlocks : ℕ → ℕ → Bool → Label → Stepped
+readBlocks n more lock l = if ltb (l .blocks) (n + more) then failed 0x10 l else told (several lock n more) l
+
+unfoldable pub readLocks : ℕ → ℕ → Label → Stepped
+readLocks n more l = if ltb (l .blocks) (n + more) then failed 0x10 l else told (a.Locks n more) l
+
 -- 5 bytes and a block: count bytes were sent; lock is the block's
 unfoldable pub writeBlock : ℕ → Bool → ℕ → ℕ → Label → Stepped
 writeBlock n option count lock l =
@@ -162,26 +175,28 @@ writeDsfid v l = if set? (bit 1 (l .locks)) then failed 0x12 l else done (withDs
 unfoldable pub lockDsfid : Label → Stepped
 lockDsfid l = if set? (bit 1 (l .locks)) then failed 0x11 l else done (withLocks (l .locks + 2) l)
 
--- Stay quiet is always silent: state 2. 25 selects, 26 readies. p is the first parameter
-unfoldable pub perform : Task → ℕ → Bool → ℕ → ℕ → Label → Stepped
+-- Stay quiet is always silent: state 2. 25 selects, 26 readies. 23 and 2C take a first block and a count less 1
+unfoldable pub perform : Task → Params → Bool → ℕ → ℕ → Label → Stepped
 perform t.Quiet p option count lock l = silent (withState 2 l)
-perform t.Read p option count lock l = readBlock p option l
-perform t.Write p option count lock l = writeBlock p option count lock l
-perform t.Lock p option count lock l = lockBlock p lock l
+perform t.Read p option count lock l = readBlock (p .first) option l
+perform t.Write p option count lock l = writeBlock (p .first) option count lock l
+perform t.Lock p option count lock l = lockBlock (p .first) lock l
+perform t.ReadMany p option count lock l = readBlocks (p .first) (p .second) option l
 perform t.Select p option count lock l = done (withState 3 l)
 perform t.Ready p option count lock l = done (withState 1 l)
-perform t.WriteAfi p option count lock l = writeAfi p l
+perform t.WriteAfi p option count lock l = writeAfi (p .first) l
 perform t.LockAfi p option count lock l = lockAfi l
-perform t.WriteDsfid p option count lock l = writeDsfid p l
+perform t.WriteDsfid p option count lock l = writeDsfid (p .first) l
 perform t.LockDsfid p option count lock l = lockDsfid l
 perform t.Info p option count lock l = told a.Info l
+perform t.Status p option count lock l = readLocks (p .first) (p .second) l
 
 -- what one that does not act does: Select (25), well formed, for another UID sends state 3 to 1
 unfoldable pub passed : Task → Label → Stepped
 passed task l = if eqb (rowOf task .code) 0x25 && eqb (l .state) 3 then silent (withState 1 l) else silent l
 
 -- every label frame, good or bad, first ends a running slot sequence
-unfoldable pub asked : Target → List ℕ → Task → ℕ → Bool → ℕ → ℕ → Label → Stepped
+unfoldable pub asked : Target → List ℕ → Task → Params → Bool → ℕ → ℕ → Label → Stepped
 asked to uid task p option count lock l = if acts to uid l then perform task p option count lock (ended l) else passed task (ended l)
 
 unfoldable pub faulted : Target → List ℕ → ℕ → Label → Stepped

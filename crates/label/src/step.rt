@@ -8,10 +8,13 @@ use request::label::Request;
 use request::label::Target;
 use request::table::Task;
 ghost use mathlib.Core.Path.{_≡_};
+ghost use Prim.Native.Nat.{_+_};
+ghost use lib.Dec.{ltb};
 ghost use Rattle.request.specs.declared.label.Family.the-variants.{Only};
+ghost use Rattle.request.specs.Label.{both};
 ghost use Rattle.label.specs.Step.{told, withSlot, awake, silent, done, failed, fieldOff, fieldOn, ended, passes, ready, heeds, turn, opens, inventory};
 ghost use Rattle.label.specs.Step.{endOfFrame, acts, perform, passed, asked, faulted, act, withState};
-ghost use Rattle.label.specs.Step.{readBlock, writeBlock, lockBlock, writeAfi, lockAfi, writeDsfid, lockDsfid};
+ghost use Rattle.label.specs.Step.{readBlock, readBlocks, readLocks, writeBlock, lockBlock, writeAfi, lockAfi, writeDsfid, lockDsfid};
 
 // The part of a label that steps: its body's first 25 bytes.
 pub struct Label {
@@ -36,6 +39,10 @@ pub enum Answer {
     Found,
     Block(u8, bool),
     Info,
+    // A block and so many more behind it; the same with each one's lock before it; the locks alone.
+    Blocks(u8, u8),
+    LocksAndBlocks(u8, u8),
+    Locks(u8, u8),
 }
 
 // What is written beside the label's first bytes: a block becomes the bytes sent, or it is locked.
@@ -238,6 +245,34 @@ impl Label {
         self.told(Answer::Block(n, lock))
     }
 
+    // Whether the last of so many blocks behind block n is past the end.
+    fn ends_before(self, n: u8, more: u8) -> bool
+        ensures { λ r. ⌜ r ≡ ltb (self .blocks) (n + more) ⌝ }
+    {
+        (self.blocks as u32) < n as u32 + more as u32
+    }
+
+    fn read_blocks(self, n: u8, more: u8, lock: bool) -> Stepped
+        ensures { λ r. ⌜ r ≡ readBlocks n more lock self ⌝ }
+    {
+        if self.ends_before(n, more) {
+            return self.failed(0x10);
+        }
+        if lock {
+            return self.told(Answer::LocksAndBlocks(n, more));
+        }
+        self.told(Answer::Blocks(n, more))
+    }
+
+    fn read_locks(self, n: u8, more: u8) -> Stepped
+        ensures { λ r. ⌜ r ≡ readLocks n more self ⌝ }
+    {
+        if self.ends_before(n, more) {
+            return self.failed(0x10);
+        }
+        self.told(Answer::Locks(n, more))
+    }
+
     // count bytes were sent; lock is that of block n.
     fn write_block(self, n: u8, option: bool, count: usize, lock: u8) -> Stepped
         ensures { λ r. ⌜ r ≡ writeBlock n option count lock self ⌝ }
@@ -319,22 +354,32 @@ impl Label {
         next.done()
     }
 
-    // What one that is meant does; p is the task's first parameter.
-    fn perform(self, task: Task, p: u8, option: bool, count: usize, lock: u8) -> Stepped
-        ensures { λ r. ⌜ r ≡ perform task p option count lock self ⌝ }
+    // What one that is meant does. The parameters come as two bytes: handed on as a struct they are kept in memory, which costs a third of a step.
+    fn perform(
+        self,
+        task: Task,
+        first: u8,
+        second: u8,
+        option: bool,
+        count: usize,
+        lock: u8,
+    ) -> Stepped
+        ensures { λ r. ⌜ r ≡ perform task (both first second) option count lock self ⌝ }
     {
         match task {
             Task::Quiet => self.put_state(2).silent(),
-            Task::Read => self.read_block(p, option),
-            Task::Write => self.write_block(p, option, count, lock),
-            Task::Lock => self.lock_block(p, lock),
+            Task::Read => self.read_block(first, option),
+            Task::Write => self.write_block(first, option, count, lock),
+            Task::Lock => self.lock_block(first, lock),
+            Task::ReadMany => self.read_blocks(first, second, option),
             Task::Select => self.put_state(3).done(),
             Task::Ready => self.put_state(1).done(),
-            Task::WriteAfi => self.write_afi(p),
+            Task::WriteAfi => self.write_afi(first),
             Task::LockAfi => self.lock_afi(),
-            Task::WriteDsfid => self.write_dsfid(p),
+            Task::WriteDsfid => self.write_dsfid(first),
             Task::LockDsfid => self.lock_dsfid(),
             Task::Info => self.told(Answer::Info),
+            Task::Status => self.read_locks(first, second),
         }
     }
 
@@ -379,19 +424,20 @@ impl Label {
         to: Target,
         uid: [u8; 8],
         task: Task,
-        p: u8,
+        first: u8,
+        second: u8,
         option: bool,
         count: usize,
         lock: u8,
     ) -> Stepped
-        ensures { λ r. ⌜ r ≡ awake (asked to uid task p option count lock self) self ⌝ }
+        ensures { λ r. ⌜ r ≡ awake (asked to uid task (both first second) option count lock self) self ⌝ }
     {
         if self.state == 0 {
             return self.silent();
         }
         let l = self.ended();
         if self.is_meant(to, uid) {
-            return l.perform(task, p, option, count, lock);
+            return l.perform(task, first, second, option, count, lock);
         }
         l.passed(task)
     }
@@ -413,7 +459,9 @@ impl Label {
                 self.inventory(family, sixteen, bits, mask)
             }
             Call::Fault(to, code) => self.faulted(to, uid, code),
-            Call::Do(to, task, p, option) => { self.asked(to, uid, task, p, option, count, lock) }
+            Call::Do(to, task, p, option) => {
+                self.asked(to, uid, task, p.first, p.second, option, count, lock)
+            }
         }
     }
 }

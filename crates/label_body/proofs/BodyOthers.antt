@@ -9,13 +9,14 @@ use Rattle.request.specs.declared.table.Task.the-variants as t
 use Rattle.request.specs.declared.label.Target.the-variants.{One}
 use Rattle.request.specs.declared.label.Call.{Call}
 use Rattle.request.specs.declared.label.Call.the-variants.{Ignored, Off, On, EndOfFrame, Nobody, Inventory, Fault, Do}
+use Rattle.request.specs.Label.{both}
 use Rattle.request.proofs.label.Call.{the-type as call-type}
 use Rattle.label.proofs.StepOthers.{but}
 use Rattle.label_body.specs.Body.{named}
 
 -- the calls but those of a task
 abbrev undone : List ℕ
-undone = but (tagOf call-type (Do One t.Quiet 0 false)) 0 8
+undone = but (tagOf call-type (Do One t.Quiet (both 0 0) false)) 0 8
 
 pub named-none : (x : Call) (b : List ℕ) → OneOf undone (tagOf call-type x) → 0 ≡ named x b
 unfolding named

@@ -1,5 +1,6 @@
 -- A body of the length that its numbers ask for has room for its locks and each of its blocks.
 -- Assumes nothing.
+use mathlib.Core.Path.{_≡_}
 use mathlib.Core.List.{List}
 use Prim.Native.Nat.{ℕ, suc, _+_, _*_, _≤_, _<_}
 use native.Mathlib.Nat.{mul-le-mul, mul-le-mul-right, suc-mul}
@@ -35,6 +36,10 @@ block-next b n m h =
 pub block-fits : (b : List ℕ) (n : ℕ) → Sized b → n ≤ getD b 11 0 → blockAt b n + sizeOf b ≤ length b
 unfolding Sized blockAt
 block-fits b n s h = rw s (block-next b n (blocksOf b) (omega arith))
+
+-- the same of a place that is the block's
+pub block-inside : (b : List ℕ) (n at : ℕ) → at ≡ blockAt b n → Sized b → n ≤ getD b 11 0 → at + sizeOf b ≤ length b
+block-inside b n at p s h = rw p (block-fits b n s h)
 
 -- and its place is a small number
 pub place-small : (n s : ℕ) → n < 256 → s < 256 → n * (s + 1) ≤ 65280

@@ -25,6 +25,7 @@ use Rattle.request.specs.declared.label.Target.{Target}
 use Rattle.request.specs.declared.label.Family.the-variants.{Any}
 use Rattle.request.specs.declared.table.Task.{Task}
 use Rattle.request.specs.declared.table.Task.the-variants as t
+use Rattle.request.specs.declared.label.Params.{Params}
 use Rattle.request.specs.declared.label.Call.{Call}
 use Rattle.request.specs.declared.label.Call.the-variants.{Ignored, Off, On, EndOfFrame, Nobody, Inventory, Fault, Do}
 use Rattle.request.specs.declared.label.Request.{Request}
@@ -322,6 +323,9 @@ errs a.Done = false
 errs a.Found = false
 errs (a.Block n lock) = false
 errs a.Info = false
+errs (a.Blocks n more) = false
+errs (a.LocksAndBlocks n more) = false
+errs (a.Locks n more) = false
 
 way-error : {call : Call} {count lock : ℕ} {l : Label} {s : Stepped} (code : ℕ) → Way call count lock l s → s .answer ≡ a.Error code
     → s ≡ failed code (ended l)
@@ -388,7 +392,7 @@ off-called : (f uid : List ℕ) (n lock : ℕ) (l : Label) → eqb (l .state) 0 
 unfolding called
 off-called f uid n lock l q =
     decode-ends (λ (call : Call). called call uid n lock l ≡ silent l) f (rw q) (λ family sixteen at h. rw q) (λ to code. rw q)
-    (λ to task at option. rw q)
+    (λ to task at option. rw q) (λ to task at option. rw q)
 
 -- document 01, "Events": tags in state 0 ignore everything but field on; a statement, which nothing cites
 module _ (bytes b : List ℕ) (bs : Bytes b) (ok : LabelFine b) (q : getD b 14 0 ≡ 0) where
@@ -429,15 +433,16 @@ module _ (bytes b : List ℕ) (bs : Bytes b) (ok : LabelFine b) (q : getD b 14 0
 -- ---- bytes sent matter to a write alone
 
 abbrev Unwriting : Call → Type 0
-Unwriting call = (to : Target) (p : ℕ) (option : Bool) → call ≡ Do to t.Write p option → ⊥
+Unwriting call = (to : Target) (p : Params) (option : Bool) → call ≡ Do to t.Write p option → ⊥
 
-task-count : (task : Task) (to : Target) (uid : List ℕ) (p : ℕ) (option : Bool) (n m lock : ℕ) (l : Label) → Unwriting (Do to task p option)
+task-count : (task : Task) (to : Target) (uid : List ℕ) (p : Params) (option : Bool) (n m lock : ℕ) (l : Label) → Unwriting (Do to task p option)
     → asked to uid task p option n lock l ≡ asked to uid task p option m lock l
 unfolding asked perform
 task-count t.Quiet to uid p option n m lock l z = refl
 task-count t.Read to uid p option n m lock l z = refl
 task-count t.Write to uid p option n m lock l z = absurd (z to p option refl)
 task-count t.Lock to uid p option n m lock l z = refl
+task-count t.ReadMany to uid p option n m lock l z = refl
 task-count t.Select to uid p option n m lock l z = refl
 task-count t.Ready to uid p option n m lock l z = refl
 task-count t.WriteAfi to uid p option n m lock l z = refl
@@ -445,6 +450,7 @@ task-count t.LockAfi to uid p option n m lock l z = refl
 task-count t.WriteDsfid to uid p option n m lock l z = refl
 task-count t.LockDsfid to uid p option n m lock l z = refl
 task-count t.Info to uid p option n m lock l z = refl
+task-count t.Status to uid p option n m lock l z = refl
 
 call-count : (call : Call) (uid : List ℕ) (n m lock : ℕ) (l : Label) → Unwriting call → called call uid n lock l ≡ called call uid m lock l
 unfolding called
@@ -464,7 +470,7 @@ unwritten w.Nothing count b h g bytes bytes₂ y = refl
 unwritten (w.Write n) count b h g bytes bytes₂ y = absurd (h (g .1))
 unwritten (w.Lock n) count b h g bytes bytes₂ y = refl
 
-module _ (r : Request) (b : List ℕ) (z : (to : Target) (p : ℕ) (option : Bool) → r .call ≡ Do to t.Write p option → ⊥) where
+module _ (r : Request) (b : List ℕ) (z : (to : Target) (p : Params) (option : Bool) → r .call ≡ Do to t.Write p option → ⊥) where
   uncounted : (n m : ℕ) → stepped r n b ≡ stepped r m b
   unfolding stepped act
   uncounted n m = call-count (r .call) (r .uid) n m (named (r .call) b) (loadOf b) z

@@ -1,17 +1,22 @@
 -- The locks of a body's blocks: what a lock reads, what locking one leaves, the rules told and kept. Every law above goes by these and none unfolds a lock.
 -- Assumes nothing.
 use mathlib.Core.Path.{_≡_, refl, ap, sym, _∙_}
-use mathlib.Core.List.{List, [], _∷_, _++_}
+use mathlib.Core.Logic.{⊎-elim}
+use mathlib.Core.List.{List, [], _∷_, _++_, append-assoc}
 use Prim.Native.Nat.{ℕ, zero, suc, _+_, _≤_, _<_}
+use native.Mathlib.Nat.{eq-or-lt-of-le}
 use native.Mathlib.Omega.{arith}
 use lib.Dec.{eqb, ltb, lit<}
-use lib.ListN.{length, getD, set, length-set, replicate, length-replicate}
-use lib.Seq.{getD-set-same, getD-set-other, getD-append-add}
+use lib.ListN.{length, getD, set, length-set}
+use lib.Seq.{getD-set-same, getD-set-other, getD-append-add, getD-at}
 use Rattle.frame.specs.declared.verdict.Verdict.{Verdict}
+use Rattle.frame.specs.Choose.{gather}
 use Rattle.frame.specs.Number.{Bytes}
 use Rattle.frame.specs.Judge.{fine, firstOf, byteVerdict}
 use Rattle.frame.proofs.Bools.{if-both}
-use Rattle.frame.proofs.Stores.{bytes-set}
+use Rattle.frame.proofs.Lists.{gather-suc}
+use Rattle.frame.proofs.Gather.{gather-bytes, gather-length}
+use Rattle.frame.proofs.Stores.{bytes-cons, bytes-set}
 use Rattle.frame.proofs.Judge.{first-none, first-suc, bytes-fine, bytes-good}
 use Rattle.label_body.specs.Locks.{lockRoom, lockOn, withLock, locksVerdict, LocksFine}
 
@@ -112,49 +117,55 @@ pub locks-place : (b : List ℕ) (k : ℕ) → 32 + lockRoom b ≤ k → locksVe
 unfolding locksVerdict lockRoom
 locks-place b k h = first-place (byteVerdict b 32 1) k (getD b 11 0 + 1) (λ i l. byte-place b 32 1 i k (omega arith))
 
--- ---- the locks of a body that is made: all the same
+-- ---- the locks of a body that is made, by the number of the block
 
 -- the bytes of the locks of blocks 0 to last
-unfoldable pub lockRun : ℕ → ℕ → List ℕ
-lockRun last lock = replicate (suc last) lock
+unfoldable pub lockRun : ℕ → (ℕ → ℕ) → List ℕ
+lockRun last lock = gather (suc last) (λ i. lock i ∷ [])
 
 -- how many bytes they are
 unfoldable pub runRoom : ℕ → ℕ
 runRoom last = suc last
 
-pub run-length : (last lock : ℕ) → length (lockRun last lock) ≡ runRoom last
+run-long : (n : ℕ) (lock : ℕ → ℕ) → length (gather n (λ i. lock i ∷ [])) ≡ n
+run-long n lock = gather-length 1 n (λ i. lock i ∷ []) (λ i l. refl) ∙ omega arith
+
+pub run-length : (last : ℕ) (lock : ℕ → ℕ) → length (lockRun last lock) ≡ runRoom last
 unfolding lockRun runRoom
-run-length last lock = length-replicate (suc last) lock
+run-length last lock = run-long (suc last) lock
 
 pub run-room : (last : ℕ) (b : List ℕ) → getD b 11 0 ≡ last → lockRoom b ≡ runRoom last
 unfolding lockRoom runRoom
 run-room last b e = omega (arith, e)
 
-run-at : (n j x : ℕ) (q : List ℕ) → j < n → getD (replicate n x ++ q) j 0 ≡ x
-run-at zero j x q h = absurd (omega arith)
-run-at (suc n) zero x q h = refl
-run-at (suc n) (suc j) x q h = run-at n j x q (omega arith)
+run-at : (n j : ℕ) (lock : ℕ → ℕ) (q : List ℕ) → j < n → getD (gather n (λ i. lock i ∷ []) ++ q) j 0 ≡ lock j
+run-at zero j lock q h = absurd (omega arith)
+run-at (suc n) j lock q h =
+    let x = gather n (λ i. lock i ∷ []) in
+    let b : j ≤ n = omega arith in
+    rw (gather-suc n (λ i. lock i ∷ []), append-assoc x (lock n ∷ []) q)
+    (⊎-elim
+    (λ (e : j ≡ n). rw e (getD-at x (lock n) q 0 n (run-long n lock)))
+    (λ (l : j < n). run-at n j lock (lock n ∷ q) l)
+    (eq-or-lt-of-le b))
 
-run-all : (n x : ℕ) → x < 256 → Bytes (replicate n x)
-run-all zero x h i = lit< tt
-run-all (suc n) x h zero = h
-run-all (suc n) x h (suc i) = run-all n x h i
+-- locks, 0 or 1 each
+module _ (last : ℕ) (lock : ℕ → ℕ) (k : (i : ℕ) → i ≤ last → lock i ≤ 1) where
+  pub run-bytes : Bytes (lockRun last lock)
+  unfolding lockRun
+  run-bytes = gather-bytes (suc last) (λ i. lock i ∷ []) (λ i l. bytes-cons (lock i) [] (omega (arith, k i (omega arith))) (λ j. lit< tt))
 
-pub run-bytes : (last lock : ℕ) → lock ≤ 1 → Bytes (lockRun last lock)
-unfolding lockRun
-run-bytes last lock h = run-all (suc last) lock (omega arith)
+  -- behind 32 bytes and before others
+  module _ (h q : List ℕ) (e : length h ≡ 32) where
+    run-byte : (j : ℕ) → j ≤ last → getD (h ++ (gather (suc last) (λ i. lock i ∷ []) ++ q)) (32 + j) 0 ≡ lock j
+    run-byte j l =
+        let r = gather (suc last) (λ i. lock i ∷ []) ++ q in
+        ap (λ (m : ℕ). getD (h ++ r) (m + j) 0) (sym e) ∙ getD-append-add h r j 0 ∙ run-at (suc last) j lock q (omega arith)
 
--- behind 32 bytes and before others
-run-byte : (last lock j : ℕ) (h q : List ℕ) → length h ≡ 32 → j ≤ last → getD (h ++ (replicate (suc last) lock ++ q)) (32 + j) 0 ≡ lock
-run-byte last lock j h q e l =
-    let r = replicate (suc last) lock ++ q in
-    ap (λ (k : ℕ). getD (h ++ r) (k + j) 0) (sym e) ∙ getD-append-add h r j 0 ∙ run-at (suc last) j lock q (omega arith)
+    pub run-lock : (n : ℕ) → n ≤ last → lockOn n (h ++ (lockRun last lock ++ q)) ≡ lock n
+    unfolding lockOn lockRun
+    run-lock n l = run-byte n l
 
-pub run-lock : (last lock n : ℕ) (h q : List ℕ) → length h ≡ 32 → lock ≤ 1 → n ≤ last → lockOn n (h ++ (lockRun last lock ++ q)) ≡ lock
-unfolding lockOn lockRun
-run-lock last lock n h q e k l = run-byte last lock n h q e l
-
-pub run-fine : (last lock : ℕ) (h q : List ℕ) → length h ≡ 32 → getD (h ++ (lockRun last lock ++ q)) 11 0 ≡ last → lock ≤ 1
-    → LocksFine (h ++ (lockRun last lock ++ q))
-unfolding LocksFine lockRun
-run-fine last lock h q e f k j l = omega (arith, run-byte last lock j h q e (omega (arith, f)))
+    pub run-fine : getD (h ++ (lockRun last lock ++ q)) 11 0 ≡ last → LocksFine (h ++ (lockRun last lock ++ q))
+    unfolding LocksFine lockRun
+    run-fine f j l = let i : j ≤ last = omega (arith, f) in omega (arith, run-byte j i, k j i)

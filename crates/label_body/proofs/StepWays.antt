@@ -13,6 +13,7 @@ use Rattle.request.specs.declared.label.Target.{Target}
 use Rattle.request.specs.declared.label.Family.{Family}
 use Rattle.request.specs.declared.table.Task.{Task}
 use Rattle.request.specs.declared.table.Task.the-variants as t
+use Rattle.request.specs.declared.label.Params.{Params}
 use Rattle.request.specs.declared.label.Call.{Call}
 use Rattle.request.specs.declared.label.Call.the-variants.{Ignored, Off, On, EndOfFrame, Nobody, Inventory, Fault, Do}
 use Rattle.request.specs.declared.label.Request.{Request}
@@ -25,7 +26,8 @@ use Rattle.request.specs.Table.{rowOf}
 use Rattle.request.proofs.LabelSound.{Sound}
 use Rattle.label.specs.Step.{withState, withSlot, withAfi, withDsfid, withLocks, ended, told, silent, done}
 use Rattle.label.specs.Step.{fieldOff, fieldOn, passes, ready, heeds, turn, opens, inventory, endOfFrame, acts, passed, asked, faulted}
-use Rattle.label.specs.Step.{readBlock, writeBlock, lockBlock, writeAfi, lockAfi, writeDsfid, lockDsfid, perform, awake, called, act}
+use Rattle.label.specs.Step.{several, readBlock, readBlocks, readLocks, writeBlock, lockBlock, writeAfi, lockAfi, writeDsfid, lockDsfid}
+use Rattle.label.specs.Step.{perform, awake, called, act}
 use Rattle.label_body.specs.Locks.{lockOn}
 use Rattle.label_body.specs.Body.{named}
 
@@ -34,7 +36,7 @@ abbrev pub turned : Bool → Answer
 turned true = a.Found
 turned false = a.Silent
 
--- an answer that leaves the label be: a block that it gives is there
+-- an answer that leaves the label be: the blocks that it gives are there
 unfoldable pub Calm : Answer → Label → Type 0
 Calm a.Silent l = Unit
 Calm (a.Error code) l = Unit
@@ -42,6 +44,14 @@ Calm a.Done l = Unit
 Calm a.Found l = Unit
 Calm (a.Block n lock) l = n ≤ l .blocks
 Calm a.Info l = Unit
+Calm (a.Blocks n more) l = n + more ≤ l .blocks
+Calm (a.LocksAndBlocks n more) l = n + more ≤ l .blocks
+Calm (a.Locks n more) l = n + more ≤ l .blocks
+
+several-calm : (option : Bool) (n more : ℕ) (l : Label) → n + more ≤ l .blocks → Calm (several option n more) l
+unfolding Calm
+several-calm true n more l h = h
+several-calm false n more l h = h
 
 pub data Way (call : Call) (count lock : ℕ) (l : Label) : Stepped → Type 0 where
   stays : Way call count lock l (silent l)
@@ -92,28 +102,34 @@ module _ (family : Family) (bits mask count lock : ℕ) (l : Label) where
       (λ y. opens-way sixteen (and-both (ready l) (passes family (l .afi)) y .0))
       (λ n. says a.Silent tt)
 
-module _ (to : Target) (p : ℕ) (option : Bool) (count lock : ℕ) (l : Label) where
+module _ (to : Target) (p : Params) (option : Bool) (count lock : ℕ) (l : Label) where
   performs : (x : Task) → Way (Do to x p option) count lock l (perform x p option count lock (ended l))
-  unfolding perform readBlock writeBlock lockBlock writeAfi lockAfi writeDsfid lockDsfid Calm Sound named ended
+  unfolding perform readBlock readBlocks readLocks writeBlock lockBlock writeAfi lockAfi writeDsfid lockDsfid Calm Sound named ended
   performs t.Quiet = hushes
-  performs t.Read = either _ count lock l (ltb (l .blocks) p) (λ e. says (a.Error 0x10) tt) (λ e. says (a.Block p option) (ltb-false _ _ e))
+  performs t.Read = either _ count lock l (ltb (l .blocks) (p .first)) (λ e. says (a.Error 0x10) tt) (λ e. says (a.Block (p .first) option) (ltb-false _ _ e))
   performs t.Write =
       either _ count lock l (not (eqb count (l .size + 1))) (λ e. says (a.Error 0x02) tt)
       (λ e. either _ count lock l option (λ x. says (a.Error 0x03) tt)
-      (λ x. either _ count lock l (ltb (l .blocks) p) (λ y. says (a.Error 0x10) tt)
+      (λ x. either _ count lock l (ltb (l .blocks) (p .first)) (λ y. says (a.Error 0x10) tt)
       (λ y. either _ count lock l (eqb lock 1) (λ z. says (a.Error 0x12) tt)
-      (λ z. writes p (λ c. refl) (eqb-true _ _ (not-false (eqb count (l .size + 1)) e)) (ltb-false _ _ y) (eqb-false _ _ z)))))
+      (λ z. writes (p .first) (λ c. refl) (eqb-true _ _ (not-false (eqb count (l .size + 1)) e)) (ltb-false _ _ y) (eqb-false _ _ z)))))
   performs t.Lock =
-      either _ count lock l (ltb (l .blocks) p) (λ y. says (a.Error 0x10) tt)
+      either _ count lock l (ltb (l .blocks) (p .first)) (λ y. says (a.Error 0x10) tt)
       (λ y. either _ count lock l (eqb lock 1) (λ z. says (a.Error 0x11) tt)
-      (λ z. locks p (λ c. refl) (ltb-false _ _ y) (eqb-false _ _ z)))
+      (λ z. locks (p .first) (λ c. refl) (ltb-false _ _ y) (eqb-false _ _ z)))
+  performs t.ReadMany =
+      either _ count lock l (ltb (l .blocks) (p .first + p .second)) (λ e. says (a.Error 0x10) tt)
+      (λ e. says (several option (p .first) (p .second)) (several-calm option (p .first) (p .second) l (ltb-false _ _ e)))
   performs t.Select = selects
   performs t.Ready = readies
-  performs t.WriteAfi = either _ count lock l (set? (bit 0 (l .locks))) (λ e. says (a.Error 0x12) tt) (λ e. afis p (λ s. s) (eqb-false _ _ e))
+  performs t.WriteAfi = either _ count lock l (set? (bit 0 (l .locks))) (λ e. says (a.Error 0x12) tt) (λ e. afis (p .first) (λ s. s .0) (eqb-false _ _ e))
   performs t.LockAfi = either _ count lock l (set? (bit 0 (l .locks))) (λ e. says (a.Error 0x11) tt) (λ e. afiLocks (eqb-false _ _ e))
-  performs t.WriteDsfid = either _ count lock l (set? (bit 1 (l .locks))) (λ e. says (a.Error 0x12) tt) (λ e. dsfids p (λ s. s) (eqb-false _ _ e))
+  performs t.WriteDsfid = either _ count lock l (set? (bit 1 (l .locks))) (λ e. says (a.Error 0x12) tt) (λ e. dsfids (p .first) (λ s. s .0) (eqb-false _ _ e))
   performs t.LockDsfid = either _ count lock l (set? (bit 1 (l .locks))) (λ e. says (a.Error 0x11) tt) (λ e. dsfidLocks (eqb-false _ _ e))
   performs t.Info = says a.Info tt
+  performs t.Status =
+      either _ count lock l (ltb (l .blocks) (p .first + p .second)) (λ e. says (a.Error 0x10) tt)
+      (λ e. says (a.Locks (p .first) (p .second)) (ltb-false _ _ e))
 
   passes-by : (x : Task) → Way (Do to x p option) count lock l (passed x (ended l))
   unfolding passed Calm ended

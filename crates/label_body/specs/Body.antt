@@ -117,7 +117,7 @@ named EndOfFrame b = 0
 named Nobody b = 0
 named (Inventory family sixteen bits mask) b = 0
 named (Fault to code) b = 0
-named (Do to task p option) b = lockOn p b
+named (Do to task p option) b = lockOn (p .first) b
 
 -- a block becomes the bytes sent, or is locked
 unfoldable pub worked : Work → List ℕ → List ℕ → List ℕ

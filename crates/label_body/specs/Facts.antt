@@ -32,7 +32,7 @@ WorkFits w.Nothing count b = Unit
 WorkFits (w.Write n) count b = (n ≤ getD b 11 0) × (count ≡ sizeOf b)
 WorkFits (w.Lock n) count b = n ≤ getD b 11 0
 
--- an answer that the body can give: the block is there
+-- an answer that the body can give: the blocks are there
 unfoldable pub AnswerFits : Answer → List ℕ → Type 0
 AnswerFits a.Silent b = Unit
 AnswerFits (a.Error code) b = Unit
@@ -40,3 +40,6 @@ AnswerFits a.Done b = Unit
 AnswerFits a.Found b = Unit
 AnswerFits (a.Block n lock) b = n ≤ getD b 11 0
 AnswerFits a.Info b = Unit
+AnswerFits (a.Blocks n more) b = n + more ≤ getD b 11 0
+AnswerFits (a.LocksAndBlocks n more) b = n + more ≤ getD b 11 0
+AnswerFits (a.Locks n more) b = n + more ≤ getD b 11 0

@@ -1,16 +1,18 @@
 // The frame of a label's answer.
-use crate::body::place;
+use crate::body::block;
 use crate::locks::lock_on;
 use frame::check_sum::seal;
 use frame::part::seal_part;
 use frame::put::put_bytes;
 use label::step::Answer;
 ghost use mathlib.Core.Path.{_≡_};
-ghost use Prim.Native.Nat.{_≤_};
+ghost use mathlib.Core.List.{_∷_};
+ghost use Prim.Native.Nat.{_+_, _≤_};
 ghost use lib.ListN.{length, getD};
 ghost use lib.Seq.{sets};
 ghost use Rattle.label_body.specs.Body.{Sized};
-ghost use Rattle.label_body.specs.Answer.{speaks, answerFrame};
+ghost use Rattle.label_body.specs.Answer.{speaks, blockBytes, blocksBytes, answerFrame};
+ghost use Rattle.frame.specs.CheckSum.{framed};
 ghost use Rattle.label_body.specs.Facts.{AnswerFits};
 
 // Whether there is an answer.
@@ -24,6 +26,9 @@ pub fn speaking(a: Answer) -> bool
         Answer::Found => true,
         Answer::Block(_, _) => true,
         Answer::Info => true,
+        Answer::Blocks(_, _) => true,
+        Answer::LocksAndBlocks(_, _) => true,
+        Answer::Locks(_, _) => true,
     }
 }
 
@@ -48,21 +53,68 @@ fn say_info(b: &[u8], out: &mut [u8]) -> usize
     seal_part(out, n, b, 11, 3)
 }
 
-// 00, the lock if it is asked for, the block.
+// The lock of block n if it is asked for, and the block, from a place on; returns the place behind them.
+fn lay_block(b: &[u8], n: u8, lock: bool, out: &mut [u8], at: usize) -> usize
+    requires { ⌜ Sized (now b) × (n ≤ getD (now b) 11 0) ⌝ }
+    requires { ⌜ at + length (blockBytes n lock (now b)) ≤ length (now out) ⌝ }
+    ensures { λ r. ⌜ (r ≡ at + length (blockBytes n lock (now (b .entry))))
+        × (now (out .exit) ≡ sets (now (out .entry)) at (blockBytes n lock (now (b .entry)))) ⌝ }
+{
+    let bytes = block(b, n);
+    if lock {
+        out[at] = lock_on(b, n);
+        return put_bytes(out, at + 1, bytes, bytes.len());
+    }
+    put_bytes(out, at, bytes, bytes.len())
+}
+
+// 00, the block.
 fn say_block(b: &[u8], n: u8, lock: bool, out: &mut [u8]) -> usize
     requires { ⌜ Sized (now b) × (n ≤ getD (now b) 11 0) ⌝ }
     requires { ⌜ length (answerFrame (Answer.Block n lock) (now b)) ≤ length (now out) ⌝ }
     ensures { λ r. ⌜ (r ≡ length (answerFrame (Answer.Block n lock) (now (b .entry))))
         × (now (out .exit) ≡ sets (now (out .entry)) 0 (answerFrame (Answer.Block n lock) (now (b .entry)))) ⌝ }
 {
-    let size = b[12] as usize + 1;
-    let at = place(b, n);
     out[0] = 0;
-    if lock {
-        out[1] = lock_on(b, n);
-        return seal_part(out, 2, b, at, size);
+    let m = lay_block(b, n, lock, out, 1);
+    seal(out, m)
+}
+
+// 00, block n and so many more.
+fn say_blocks(b: &[u8], n: u8, more: u8, lock: bool, out: &mut [u8]) -> usize
+    requires { ⌜ Sized (now b) × (n + more ≤ getD (now b) 11 0) ⌝ }
+    requires { ⌜ length (framed (0 ∷ blocksBytes n more lock (now b))) ≤ length (now out) ⌝ }
+    ensures { λ r. ⌜ (r ≡ length (framed (0 ∷ blocksBytes n more lock (now (b .entry)))))
+        × (now (out .exit) ≡ sets (now (out .entry)) 0 (framed (0 ∷ blocksBytes n more lock (now (b .entry))))) ⌝ }
+{
+    let first = n as usize;
+    let count = more as usize + 1;
+    out[0] = 0;
+    let mut at = 1;
+    let mut i = 0;
+    while i < count {
+        at = lay_block(b, (first + i) as u8, lock, out, at);
+        i += 1;
     }
-    seal_part(out, 1, b, at, size)
+    seal(out, at)
+}
+
+// 00, the locks of block n and of so many more.
+fn say_locks(b: &[u8], n: u8, more: u8, out: &mut [u8]) -> usize
+    requires { ⌜ Sized (now b) × (n + more ≤ getD (now b) 11 0) ⌝ }
+    requires { ⌜ length (answerFrame (Answer.Locks n more) (now b)) ≤ length (now out) ⌝ }
+    ensures { λ r. ⌜ (r ≡ length (answerFrame (Answer.Locks n more) (now (b .entry))))
+        × (now (out .exit) ≡ sets (now (out .entry)) 0 (answerFrame (Answer.Locks n more) (now (b .entry)))) ⌝ }
+{
+    let first = n as usize;
+    let count = more as usize + 1;
+    out[0] = 0;
+    let mut i = 0;
+    while i < count {
+        out[1 + i] = lock_on(b, (first + i) as u8);
+        i += 1;
+    }
+    seal(out, 1 + count)
 }
 
 // Writes the frame of an answer to the front of out, and returns its length.
@@ -85,5 +137,8 @@ pub fn write_answer(a: Answer, b: &[u8], out: &mut [u8]) -> usize
         Answer::Found => say_found(b, out),
         Answer::Block(n, lock) => say_block(b, n, lock, out),
         Answer::Info => say_info(b, out),
+        Answer::Blocks(n, more) => say_blocks(b, n, more, false, out),
+        Answer::LocksAndBlocks(n, more) => say_blocks(b, n, more, true, out),
+        Answer::Locks(n, more) => say_locks(b, n, more, out),
     }
 }

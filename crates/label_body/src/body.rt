@@ -84,7 +84,7 @@ fn named_lock(b: &[u8], call: Call) -> u8
     let Call::Do(_, _, p, _) = call else {
         return 0;
     };
-    lock_on(b, p)
+    lock_on(b, p.first)
 }
 
 // Writes the block, or locks the one, that a step names.

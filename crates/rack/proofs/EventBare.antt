@@ -12,6 +12,7 @@ use Rattle.request.specs.Label as labels
 use Rattle.request.specs.Chip as chips
 use Rattle.request.specs.declared.label.Target.{Target}
 use Rattle.request.specs.declared.table.Task.the-variants.{Write}
+use Rattle.request.specs.declared.label.Params.{Params}
 use Rattle.request.specs.declared.label.Call.{Call}
 use Rattle.request.specs.declared.label.Call.the-variants.{Ignored, Off, On, EndOfFrame, Nobody, Inventory, Fault, Do}
 use Rattle.request.specs.declared.label.Request.{Request}
@@ -25,7 +26,7 @@ use Rattle.rack.specs.File.{Kind, Label, Chip, Other}
 use Rattle.rack.specs.File.{countOf, kindAt, bodyAt}
 use Rattle.rack.specs.Event.{aired, nextBody, saidBy, speaks, frameOf, answerBody, next, answer, nextRack, answers}
 use Rattle.rack.specs.Event.{opened, lengthAlone, refused, refusalOf, eventOf}
-use Rattle.rack.proofs.FilePlaces.{gather-ext}
+use Rattle.frame.proofs.Gather.{gather-ext}
 use Rattle.rack.proofs.FileRebuilt.{rebuilt-ext}
 
 -- a task's call
@@ -60,7 +61,7 @@ module _ (number : ℕ) (bare : (number ≡ 1) ⊎ ((number ≡ 2) ⊎ (number �
   unfolding labels.heard
   no-task f = by-number (λ n. does (labels.heard n f .call) ≡ false) refl refl refl
 
-  no-write : (f : List ℕ) (to : Target) (p : ℕ) (option : Bool) → labels.heard number f .call ≡ Do to Write p option → ⊥
+  no-write : (f : List ℕ) (to : Target) (p : Params) (option : Bool) → labels.heard number f .call ≡ Do to Write p option → ⊥
   no-write f to p option e = false≢true (sym (no-task f) ∙ ap does e)
 
   module _ (f g : List ℕ) where

@@ -14,7 +14,7 @@ use Rattle.frame.proofs.Numbers.{bytes-part}
 use Rattle.rack.specs.File.{countOf, kindAt, lengthAt, offsetAt, startOf, bodyAt, contents, rebuilt, verdictOf}
 use Rattle.rack.specs.Facts.{RackFine}
 use Rattle.rack.specs.Event.{Event, nextBody, next, nextRack, answer, answers, answerBody}
-use Rattle.rack.proofs.FilePlaces.{gather-ext}
+use Rattle.frame.proofs.Gather.{gather-ext}
 use Rattle.rack.proofs.FileRebuilt.{rebuilt-length, rebuilt-count, rebuilt-kind, rebuilt-lengthAt, rebuilt-offset, rebuilt-start, rebuilt-contents}
 use Rattle.rack.proofs.FileRebuilt.{rebuilt-body, rebuilt-bytes, rebuilt-ext, rebuilt-again, rebuilt-fine}
 use Rattle.rack.proofs.FileVerdict.{rack-fine, fine-rack}

@@ -11,7 +11,8 @@ use lib.Dec.{eqb, ltb, leb}
 use lib.ListN.{length, getD}
 use lib.Seq.{sets}
 use Rattle.frame.specs.Choose.{if_then_else_, gather}
-use Rattle.frame.specs.Number.{part}
+use Rattle.frame.specs.Number.{part, Bytes}
+use Rattle.frame.proofs.Numbers.{bytes-part}
 use Rattle.frame.specs.declared.verdict.Verdict.{Verdict}
 use Rattle.frame.proofs.Bools.{and-both}
 use Rattle.frame.proofs.Puts.{sets-front}
@@ -121,12 +122,14 @@ module _ (r : List ℕ) (event : Event) (ds : List ℕ) (ok : RackFine r) (w : �
   frame-told =
       rw (body-told, alone .says) (frame-same (kindAt r w) event (getD ds w 0) (bodyAt r w) (tag-fine r ok w (alone .below)))
 
-  short-told : length (frameOf said (bodyAt r w)) ≤ 36
-  short-told = rw (alone .says) (frame-short (kindAt r w) event (getD ds w 0) (bodyAt r w) (tag-fine r ok w (alone .below)))
+  short-told : Bytes r → length (frameOf said (bodyAt r w)) ≤ least
+  short-told bs =
+      rw (alone .says)
+      (frame-short (kindAt r w) event (getD ds w 0) (bodyAt r w) (bytes-part (startOf r w) (lengthAt r w) r bs) (tag-fine r ok w (alone .below)))
 
   -- its frame has room where an event is not refused
-  pub fits-told : {n : ℕ} → least ≤ n → length (frameOf said (bodyOf xs w)) ≤ n
-  fits-told h = rw frame-told (omega (arith, h, short-told))
+  pub fits-told : {n : ℕ} → Bytes r → least ≤ n → length (frameOf said (bodyOf xs w)) ≤ n
+  fits-told bs h = rw frame-told (omega (arith, h, short-told bs))
 
   -- what the answer's writer needs of the next rack
   pub tellable : Tellable xs w said
@@ -171,15 +174,15 @@ module _ (r : List ℕ) (number : ℕ) (f ds out : List ℕ) where
         record { reports = rw goes-on (cc (h .count, n .0)); leaves = rw goes-on x; writes = rw goes-on (n .1) }
 
     -- one answered, and its frame, n bytes, was written over the front of the answer buffer
-    pub shows-alone : a ≡ 1 → (n : ℕ) (o : List ℕ) → n ≡ length (frameOf said (bodyOf xs w)) → o ≡ sets out 0 (frameOf said (bodyOf xs w))
+    pub shows-alone : Bytes r → a ≡ 1 → (n : ℕ) (o : List ℕ) → n ≡ length (frameOf said (bodyOf xs w)) → o ≡ sets out 0 (frameOf said (bodyOf xs w))
         → Replied r number f ds out (record { number = 0; answered = 1; length = n }) xs o
     unfolding answers
-    shows-alone z n o le oe =
+    shows-alone bs z n o le oe =
         let may = playable r number (length ds) (length out) none in
         let told = frame-told r event ds (may .rack) w said xs (h .alone z) x in
         let one : gather (countOf r) (answer r event ds) ≡ frameOf said (bodyAt r w) ∷ [] = h .alone z .one in
         let fits : length (frameOf said (bodyAt r w)) ≤ length out =
-        rw told at (fits-told r event ds (may .rack) w said xs (h .alone z) x (may .space)) in
+        rw told at (fits-told r event ds (may .rack) w said xs (h .alone z) x bs (may .space)) in
         record {
           reports = rw (goes-on, one) (rw (le, told));
           leaves = rw goes-on x;

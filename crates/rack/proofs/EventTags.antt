@@ -29,7 +29,7 @@ use Rattle.chip.proofs.AnswerFrames as chip-answers
 use Rattle.rack.specs.File.{Kind, Label, Chip, Other}
 use Rattle.rack.specs.File.{kindOf, known, lengthFits, bodyRules}
 use Rattle.rack.specs.Facts.{TagFine, Sayable}
-use Rattle.rack.specs.Event.{Event, aired, nextBody, saidBy, frameOf}
+use Rattle.rack.specs.Event.{Event, aired, nextBody, saidBy, frameOf, least}
 
 -- ---- sound signals
 
@@ -171,7 +171,7 @@ step-keeps kind event d b s = record { fits = rw (body-length kind event d b) (s
 
 -- ---- what it says
 
--- the block that is told is there while the number of blocks stays
+-- the blocks that are told are there while the number of blocks stays
 told-same : (x : Answer) (b c : List ℕ) → getD c 11 0 ≡ getD b 11 0 → AnswerFits x b → AnswerFits x c
 unfolding AnswerFits
 told-same a.Silent b c e t = t
@@ -180,6 +180,9 @@ told-same a.Done b c e t = t
 told-same a.Found b c e t = t
 told-same (a.Block n lock) b c e t = rw e t
 told-same a.Info b c e t = t
+told-same (a.Blocks n more) b c e t = rw e t
+told-same (a.LocksAndBlocks n more) b c e t = rw e t
+told-same (a.Locks n more) b c e t = rw e t
 
 sized-same : (b c : List ℕ) → length c ≡ length b → getD c 11 0 ≡ getD b 11 0 → getD c 12 0 ≡ getD b 12 0 → Sized b → Sized c
 unfolding Sized
@@ -207,10 +210,10 @@ sayable-next Chip event d b f = omega (arith, chip-80 b f, body-length Chip even
 sayable-next Other event d b f = tt
 
 -- and its frame fits in the answer buffer
-pub frame-short : (kind : Kind) (event : Event) (d : ℕ) (b : List ℕ) → TagFine kind b → length (frameOf (saidBy kind event d b) b) ≤ 36
+pub frame-short : (kind : Kind) (event : Event) (d : ℕ) (b : List ℕ) → Bytes b → TagFine kind b → length (frameOf (saidBy kind event d b) b) ≤ least
 unfolding saidBy frameOf
-frame-short Label event d b f =
+frame-short Label event d b bs f =
     let told = label-answers.told-of (event .signal .label) (length (event .bytes)) b in
-    label-answers.frame-short _ b (label-sized b f) (label-fine.size-of b (label-kept b f)) told
-frame-short Chip event d b f = omega (arith, chip-answers.frame-short (saidChip (event .signal .chip) d b) b)
-frame-short Other event d b f = omega arith
+    label-answers.frame-short _ b (label-sized b f) (omega (arith, bs 11)) (label-fine.size-of b (label-kept b f)) told
+frame-short Chip event d b bs f = omega (arith, chip-answers.frame-short (saidChip (event .signal .chip) d b) b)
+frame-short Other event d b bs f = omega arith

@@ -40,11 +40,6 @@ span-part at len xs = rw (add-sub-cancel-left at len)
 pub splice-at : (p q ys : List ℕ) (at len : ℕ) → length p ≡ at → splice at len ys (p ++ q) ≡ p ++ (ys ++ drop len q)
 splice-at p q ys at len h = rw (take-at p q at h, drop-at p q at h)
 
--- only the values below n count
-pub gather-ext : {A : Type 0} (n : ℕ) (f g : ℕ → List A) → ((i : ℕ) → i < n → f i ≡ g i) → gather n f ≡ gather n g
-gather-ext zero f g h = gather-none f ∙ sym (gather-none g)
-gather-ext (suc n) f g h = rw (gather-suc n f, gather-suc n g, gather-ext n f g (λ i b. h i (omega arith)), h n (omega arith))
-
 -- ---- where bodies start
 
 pub start-none : (r : List ℕ) → startOf r 0 ≡ entryAt (countOf r)

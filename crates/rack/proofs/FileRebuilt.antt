@@ -18,7 +18,9 @@ use Rattle.frame.proofs.Numbers.{bytes-take, bytes-append}
 use Rattle.frame.proofs.Stores.{length-part}
 use Rattle.rack.specs.File.{countOf, entryAt, kindAt, lengthAt, offsetAt, startOf, bodyAt, contents, rebuilt, headVerdict, entryVerdict, bodyRules}
 use Rattle.rack.specs.Facts.{BodyFine, RackFine, TagFine}
-use Rattle.rack.proofs.FilePlaces.{part-at, part-in, gather-ext, start-none, start-suc, start-low, start-mono}
+use Rattle.frame.proofs.Gather.{gather-ext, gather-bytes}
+use Rattle.rack.proofs.FilePlaces.{part-at, part-in, start-none, start-suc, start-low, start-mono}
+use Rattle.frame.proofs.Gather.{gather-ext, gather-bytes}
 use Rattle.rack.proofs.FilePlaces.{same-read, count-same, kind-same, length-same, offset-same, start-same}
 use Rattle.rack.proofs.FileVerdict.{head-fine, entry-fine, body-fine, body-is, moved-fine}
 
@@ -119,10 +121,6 @@ module _ (r : List ℕ) (whole : startOf r (countOf r) ≡ length r) (g : ℕ �
   rebuilt-again f = by-parts (rebuilt r g) r f rebuilt-contents rebuilt-count
 
 -- ---- bytes stay bytes
-
-gather-bytes : (n : ℕ) (g : ℕ → List ℕ) → ((i : ℕ) → i < n → Bytes (g i)) → Bytes (gather n g)
-gather-bytes zero g h = rw gather-none (λ i. omega arith)
-gather-bytes (suc n) g h = rw gather-suc (bytes-append (gather n g) (g n) (gather-bytes n g (λ i b. h i (omega arith))) (h n (omega arith)))
 
 pub rebuilt-bytes : (r : List ℕ) (g : ℕ → List ℕ) → Bytes r → ((i : ℕ) → i < countOf r → Bytes (g i)) → Bytes (rebuilt r g)
 unfolding rebuilt

@@ -105,9 +105,9 @@ played r event ds out =
       out = opened (answers r event ds) out;
     }
 
--- the room that every answer buffer has
+-- document 02, P2: the room that every answer buffer has, that of 256 blocks of 32 bytes, each with its lock byte: 1 + 256 × 33 + 2
 abbrev pub least : ℕ
-least = 64
+least = 8451
 
 -- the lowest number that applies, for so many draws and so much room in the answer buffer; 0: none
 unfoldable pub refusalOf : List ℕ → ℕ → ℕ → ℕ → ℕ

@@ -22,8 +22,8 @@ ghost use Rattle.rack.specs.Facts.{RackFine, TagFine, Tellable, bodyOf};
 ghost use Rattle.rack.specs.Event.{carrying, nextBody, saidBy, frameOf, nextRack, refusalOf, Replied};
 ghost use Rattle.rack.specs.Pass.{PassOf};
 
-// The room that every answer buffer has.
-pub const LEAST: usize = 64;
+// The room that every answer buffer has: that of 256 blocks of 32 bytes, each with its lock.
+pub const LEAST: usize = 8451;
 
 // What an event reports: the refusal's number or 0, how many tags answered, the length of an answer that was alone.
 #[repr(C)]

@@ -3,12 +3,12 @@
 use mathlib.Core.Path.{_≡_, refl, sym, ap, _∙_}
 use mathlib.Core.Bool.{Bool, true, false, _&&_, false≢true}
 use mathlib.Core.List.{List, [], _∷_}
-use Prim.Native.Nat.{ℕ, suc, _%_}
+use Prim.Native.Nat.{ℕ, suc, _+_, _*_, _%_}
 use native.Mathlib.Omega.{arith}
 use lib.Dec.{eqb, leb}
 use lib.ListN.{length, getD}
 use borrow.Author.Tests.{eqb-true}
-use Rattle.frame.specs.Choose.{if_then_else_}
+use Rattle.frame.specs.Choose.{if_then_else_, allOf}
 use Rattle.frame.specs.Number.{part, Bytes}
 use Rattle.frame.specs.CheckSum.{content, framed}
 use Rattle.frame.specs.Ending.{endsIn}
@@ -18,6 +18,7 @@ use Rattle.request.specs.Table.{rowOf, hasAnswer}
 use Rattle.request.specs.declared.table.Task.{Task}
 use Rattle.request.specs.declared.table.Success.{Success}
 use Rattle.request.specs.declared.table.Success.the-variants as s
+use Rattle.request.specs.declared.label.Params.{Params}
 use Rattle.request.specs.declared.label.Target.{Target}
 use Rattle.label_body.specs.Answer.{answerFrame}
 use Rattle.reader.specs.declared.command.ChipTask.{ChipTask}
@@ -28,8 +29,8 @@ use Rattle.reader.specs.declared.answer.Meaning.{Meaning}
 use Rattle.reader.specs.declared.answer.Meaning.the-variants as m
 use Rattle.reader.specs.declared.answer.Reading.{Reading}
 use Rattle.reader.specs.Command.{valid}
-use Rattle.reader.specs.Answer.{said, fits, errorCode, isError, doneOf, blockOf, owned, infoOf, successOf, labelReading, foundOf}
-use Rattle.reader.specs.Answer.{chipReading, shapeOf, mayErr, readingOf}
+use Rattle.reader.specs.Answer.{said, fits, errorCode, isError, doneOf, blockOf, pieceOf, blocksOf, locksOf, owned, infoOf, successOf}
+use Rattle.reader.specs.Answer.{labelReading, foundOf, chipReading, shapeOf, mayErr, readingOf}
 use Rattle.reader.proofs.AnswerRight.{as-read, fits-either, told-right}
 use Rattle.reader.proofs.AnswerRead.{error-read}
 
@@ -45,6 +46,9 @@ codeOf (m.Info dsfid afi blocks size ic) = 0
 codeOf (m.Id id) = 0
 codeOf (m.Word word) = 0
 codeOf m.Uid = 0
+codeOf (m.Blocks place long count) = 0
+codeOf (m.LocksAndBlocks place long count) = 0
+codeOf (m.Locks place count) = 0
 
 abbrev NoError : Reading → Type 0
 NoError r = codeOf (r .meaning) ≡ 0
@@ -59,12 +63,22 @@ unfolding blockOf
 block-plain true c = fits-plain (leb 3 (length c) && (leb (length c) 34 && (eqb (getD c 0 0) 0 && leb (getD c 1 0) 1))) _ refl
 block-plain false c = fits-plain (leb 2 (length c) && (leb (length c) 33 && eqb (getD c 0 0) 0)) _ refl
 
-success-plain : (to : Target) (option : Bool) (success : Success) (uid c : List ℕ) → NoError (successOf to option success uid c)
-unfolding successOf doneOf infoOf
-success-plain to option s.Never uid c = refl
-success-plain to option s.Done uid c = fits-plain (eqb (length c) 1 && eqb (getD c 0 0) 0) _ refl
-success-plain to option s.Block uid c = block-plain option c
-success-plain to option s.Info uid c =
+blocks-plain : (option : Bool) (count : ℕ) (c : List ℕ) → NoError (blocksOf option count c)
+unfolding blocksOf
+blocks-plain true count c =
+    let each = pieceOf count c in
+    fits-plain (leb 2 each && (leb each 33 && allOf count (λ i. leb (getD c (1 + i * each) 0) 1))) _ refl
+blocks-plain false count c = fits-plain (leb 1 (pieceOf count c) && leb (pieceOf count c) 32) _ refl
+
+success-plain : (to : Target) (option : Bool) (success : Success) (more : ℕ) (uid c : List ℕ) → NoError (successOf to option success more uid c)
+unfolding successOf doneOf infoOf locksOf
+success-plain to option s.Never more uid c = refl
+success-plain to option s.Done more uid c = fits-plain (eqb (length c) 1 && eqb (getD c 0 0) 0) _ refl
+success-plain to option s.Block more uid c = block-plain option c
+success-plain to option s.Blocks more uid c = blocks-plain option (more + 1) c
+success-plain to option s.Locks more uid c =
+    fits-plain (eqb (pieceOf (more + 1) c) 1 && allOf (more + 1) (λ i. leb (getD c (1 + i) 0) 1)) _ refl
+success-plain to option s.Info more uid c =
     fits-plain
     (eqb (length c) 15 && (eqb (getD c 0 0) 0 && (eqb (getD c 1 0) 0x0F && (leb (getD c 13 0) 31 && owned to uid (part 2 8 c))))) _ refl
 
@@ -99,20 +113,21 @@ error-bytes c h =
     let b = and-both (eqb (getD c 0 0) 1) (errorCode (getD c 1 0)) (a .1) in
     (b .1, sym (window-all 2 c (eqb-true (length c) 2 (a .0))) ∙ ap (λ (x : ℕ). x ∷ getD c 1 0 ∷ []) (eqb-true (getD c 0 0) 1 (b .0)))
 
-label-errs : (to : Target) (option : Bool) (task : Task) (p : ℕ) (uid c : List ℕ) (e : ℕ) → codeOf (labelReading to option task uid c .meaning) ≡ suc e
+label-errs : (to : Target) (option : Bool) (task : Task) (p : Params) (uid c : List ℕ) (e : ℕ)
+    → codeOf (labelReading to option task p uid c .meaning) ≡ suc e
     → Errs (Label to option task p) c e
 unfolding labelReading mayErr
 label-errs to option task p uid c e h = go (hasAnswer (rowOf task .success) && isError c) refl h
   where
     go : (t : Bool) → (hasAnswer (rowOf task .success) && isError c) ≡ t
-        → codeOf ((if t then said (m.Error (getD c 1 0)) else successOf to option (rowOf task .success) uid c) .meaning) ≡ suc e
+        → codeOf ((if t then said (m.Error (getD c 1 0)) else successOf to option (rowOf task .success) (p .second) uid c) .meaning) ≡ suc e
         → Errs (Label to option task p) c e
     go true q z =
         let i : getD c 1 0 ≡ e = omega arith in
         let a = and-both (hasAnswer (rowOf task .success)) (isError c) q in
         let b = error-bytes c (a .1) in
         record { may = a .0; code = ap errorCode (sym i) ∙ b .0; is = b .1 ∙ ap (λ (x : ℕ). 1 ∷ x ∷ []) i }
-    go false q z = absurd (omega (arith, success-plain to option (rowOf task .success) uid c))
+    go false q z = absurd (omega (arith, success-plain to option (rowOf task .success) (p .second) uid c))
 
 shape-errs : (command : Command) (uid c : List ℕ) (e : ℕ) → codeOf (shapeOf command uid c .meaning) ≡ suc e → Errs command c e
 unfolding shapeOf

@@ -9,9 +9,9 @@ use native.Mathlib.Omega.{arith}
 use lib.Dec.{eqb, ltb, leb}
 use lib.ListN.{length, getD, take}
 use lib.Seq.{take-all}
-use borrow.Author.Tests.{lt-ltb, le-ltb, eq-eqb, leb-true, leb-false, not-true, not-false}
+use borrow.Author.Tests.{lt-ltb, le-ltb, le-leb, lt-leb, eq-eqb, ne-eqb, leb-true, leb-false, not-true, not-false}
 use Rattle.frame.specs.Number.{num, part, Bytes}
-use Rattle.frame.specs.Choose.{if_then_else_}
+use Rattle.frame.specs.Choose.{if_then_else_, allOf}
 use Rattle.frame.specs.CheckSum.{right, content}
 use Rattle.frame.specs.Ending.{endsIn}
 use Rattle.frame.proofs.Numbers.{num-lt}
@@ -21,6 +21,7 @@ use Rattle.request.specs.Table.{rowOf, hasAnswer}
 use Rattle.request.specs.declared.table.Task.{Task}
 use Rattle.request.specs.declared.table.Row.{Row}
 use Rattle.request.specs.declared.table.Success.{Success}
+use Rattle.request.specs.declared.label.Params.{Params}
 use Rattle.request.specs.declared.label.Target.{Target}
 use Rattle.reader.specs.declared.command.ChipTask.{ChipTask}
 use Rattle.reader.specs.declared.command.ChipTask.the-variants as p
@@ -28,7 +29,9 @@ use Rattle.reader.specs.declared.command.Command.{Command}
 use Rattle.reader.specs.declared.answer.Meaning.the-variants as m
 use Rattle.reader.specs.declared.answer.Reading.{Reading}
 use Rattle.reader.specs.Command.{valid}
-use Rattle.reader.specs.Answer.{said, saidOf, isError, owned, infoOf, successOf, labelReading, foundOf, chipReading, shapeOf, readingOf}
+use Rattle.reader.specs.Answer.{said, saidOf, isError, pieceOf, blocksOf, locksOf, owned, infoOf, successOf, labelReading, foundOf, chipReading}
+use Rattle.reader.specs.Answer.{shapeOf, readingOf}
+use Rattle.reader.proofs.AnswerPieces.{lockAt, lock-each}
 
 -- ---- labels
 
@@ -45,18 +48,62 @@ module _ (r : Reading) (to : Target) (uid c u : List ℕ) (o b : Bool) (l : leng
   unfolding infoOf
   info-fit h e = rw (eq-eqb (length c) 15 l, ← q, ← f, ← g, not-false b h) e
 
-pub success-arm : (r : Reading) (to : Target) (option : Bool) (success k : Success) (uid c : List ℕ) → success ≡ k → r ≡ successOf to option k uid c
-    → r ≡ successOf to option success uid c
-success-arm r to option success k uid c e h = rw e h
+-- blocks without locks and with them, and locks alone, by the length of a piece
+module _ (r : Reading) (count each : ℕ) (c : List ℕ) (f : each ≡ pieceOf count c) where
+  pub plain-short : each < 1 → r ≡ said (m.Refused 9) → r ≡ blocksOf false count c
+  unfolding blocksOf
+  plain-short h e = rw (← f, lt-leb 1 each h) e
+
+  pub plain-long : 1 ≤ each → 32 < each → r ≡ said (m.Refused 9) → r ≡ blocksOf false count c
+  unfolding blocksOf
+  plain-long g h e = rw (← f, le-leb 1 each g, lt-leb each 32 h) e
+
+  pub plain-fit : 1 ≤ each → each ≤ 32 → r ≡ said (m.Blocks 1 each count) → r ≡ blocksOf false count c
+  unfolding blocksOf
+  plain-fit g h e = rw (← f, le-leb 1 each g, le-leb each 32 h) e
+
+  pub locked-short : each < 2 → r ≡ said (m.Refused 9) → r ≡ blocksOf true count c
+  unfolding blocksOf
+  locked-short h e = rw (← f, lt-leb 2 each h) e
+
+  pub locked-long : 2 ≤ each → 33 < each → r ≡ said (m.Refused 9) → r ≡ blocksOf true count c
+  unfolding blocksOf
+  locked-long g h e = rw (← f, le-leb 2 each g, lt-leb each 33 h) e
+
+  module _ (b : Bool) (k : b ≡ allOf count (lockAt each c)) where
+    pub locked-misfit : 2 ≤ each → each ≤ 33 → not b ≡ true → r ≡ said (m.Refused 9) → r ≡ blocksOf true count c
+    unfolding blocksOf
+    locked-misfit g h n e = rw (← f, le-leb 2 each g, le-leb each 33 h, ← k, not-true b n) e
+
+    pub locked-fit : 2 ≤ each → each ≤ 33 → not b ≡ false → r ≡ said (m.LocksAndBlocks 1 (each - 1) count) → r ≡ blocksOf true count c
+    unfolding blocksOf
+    locked-fit g h n e = rw (← f, le-leb 2 each g, le-leb each 33 h, ← k, not-false b n) e
+
+  pub locks-other : (each ≡ 1 → ⊥) → r ≡ said (m.Refused 9) → r ≡ locksOf count c
+  unfolding locksOf
+  locks-other h e = rw (← f, ne-eqb each 1 h) e
+
+  module _ (h : each ≡ 1) (b : Bool) (k : b ≡ allOf count (lockAt 1 c)) where
+    pub locks-misfit : not b ≡ true → r ≡ said (m.Refused 9) → r ≡ locksOf count c
+    unfolding locksOf
+    locks-misfit n e = rw (← f, eq-eqb each 1 h, lock-each count c, ← k, not-true b n) e
+
+    pub locks-fit : not b ≡ false → r ≡ said (m.Locks 1 count) → r ≡ locksOf count c
+    unfolding locksOf
+    locks-fit n e = rw (← f, eq-eqb each 1 h, lock-each count c, ← k, not-false b n) e
+
+pub success-arm : (r : Reading) (to : Target) (option : Bool) (success k : Success) (more : ℕ) (uid c : List ℕ) → success ≡ k
+    → r ≡ successOf to option k more uid c → r ≡ successOf to option success more uid c
+success-arm r to option success k more uid c e h = rw e h
 
 -- a label's answer: an error, or a success
-module _ (r : Reading) (to : Target) (option : Bool) (task : Task) (uid c : List ℕ) (row : Row) (b : Bool) (f : row ≡ rowOf task)
+module _ (r : Reading) (to : Target) (option : Bool) (task : Task) (p : Params) (uid c : List ℕ) (row : Row) (b : Bool) (f : row ≡ rowOf task)
     (g : b ≡ (hasAnswer (row .success) && isError c)) where
-  pub reading-error : b ≡ true → {code : ℕ} → code ≡ getD c 1 0 → r ≡ said (m.Error code) → r ≡ labelReading to option task uid c
+  pub reading-error : b ≡ true → {code : ℕ} → code ≡ getD c 1 0 → r ≡ said (m.Error code) → r ≡ labelReading to option task p uid c
   unfolding labelReading
   reading-error h z e = rw (← f, ← g, h, ← z) e
 
-  pub reading-success : b ≡ false → r ≡ successOf to option (row .success) uid c → r ≡ labelReading to option task uid c
+  pub reading-success : b ≡ false → r ≡ successOf to option (row .success) (p .second) uid c → r ≡ labelReading to option task p uid c
   unfolding labelReading
   reading-success h e = rw (← f, ← g, h) e
 
@@ -129,6 +176,16 @@ pub ruleset ways = (
   owned-arm,
   info-misfit,
   info-fit,
+  plain-short,
+  plain-long,
+  plain-fit,
+  locked-short,
+  locked-long,
+  locked-misfit,
+  locked-fit,
+  locks-other,
+  locks-misfit,
+  locks-fit,
   success-arm,
   reading-error,
   reading-success,

@@ -11,13 +11,14 @@ use Rattle.request.specs.Table.{rowOf, optionFits}
 use Rattle.request.specs.Label.{most, targetFits}
 use Rattle.request.specs.declared.table.Task.{Task}
 use Rattle.request.specs.declared.table.Row.{Row}
+use Rattle.request.specs.declared.label.Params.{Params}
 use Rattle.request.specs.declared.label.Target.{Target}
 use Rattle.request.specs.declared.label.Family.{Family}
 use Rattle.request.specs.Chip.{listed}
 use Rattle.reader.specs.declared.command.ChipTask.{ChipTask}
 use Rattle.reader.specs.declared.command.ChipTask.the-variants as p
 use Rattle.reader.specs.declared.command.Command.the-variants.{Inventory, Label, Chip}
-use Rattle.reader.specs.Command.{everyone, dataFits, labelFits, chipFits, inventoryFits, valid}
+use Rattle.reader.specs.Command.{everyone, dataFits, rangeFits, labelFits, chipFits, inventoryFits, valid}
 
 -- ---- Inventory
 
@@ -65,18 +66,21 @@ write-listed a n e = let b = and-both (eqb n 4) (listed a) e in (eqb-true n 4 (b
 
 -- ---- labels
 
-pub record LabelFacts (row : Row) (to : Target) (option : Bool) (n : ℕ) : Type 0 where
+pub record LabelFacts (row : Row) (to : Target) (option : Bool) (p : Params) (n : ℕ) : Type 0 where
   pub allowed : optionFits row option ≡ true
   pub target : targetFits row to ≡ true
   pub count : dataFits row n ≡ true
+  pub range : rangeFits row p ≡ true
 
-pub valid-label : (to : Target) (option : Bool) (task : Task) (p n : ℕ) → valid (Label to option task p) n ≡ true → LabelFacts (rowOf task) to option n
+pub valid-label : (to : Target) (option : Bool) (task : Task) (p : Params) (n : ℕ) → valid (Label to option task p) n ≡ true
+    → LabelFacts (rowOf task) to option p n
 unfolding valid labelFits
 valid-label to option task p n v =
     let row = rowOf task in
-    let a = and-both (optionFits row option) (targetFits row to && dataFits row n) v in
-    let b = and-both (targetFits row to) (dataFits row n) (a .1) in
-    record { allowed = a .0; target = b .0; count = b .1 }
+    let a = and-both (optionFits row option) (targetFits row to && (dataFits row n && rangeFits row p)) v in
+    let b = and-both (targetFits row to) (dataFits row n && rangeFits row p) (a .1) in
+    let d = and-both (dataFits row n) (rangeFits row p) (b .1) in
+    record { allowed = a .0; target = b .0; count = d .0; range = d .1 }
 
 -- a block's data is 1 to 32 bytes
 pub block-long : (row : Row) (n : ℕ) → row .block ≡ true → dataFits row n ≡ true → (1 ≤ n) × (n ≤ 32)

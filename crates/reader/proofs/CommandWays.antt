@@ -19,11 +19,8 @@ use Rattle.reader.specs.Command.{chipFits, inventoryFits, valid}
 pub and-first : (b x y : Bool) → b ≡ x → not b ≡ true → false ≡ (x && y)
 and-first b x y e h = rw (← e, not-true b h)
 
-pub and-second : (b w x y z : Bool) → b ≡ x → not b ≡ false → w ≡ y → not w ≡ true → false ≡ (x && (y && z))
-and-second b w x y z e h f g = rw (← e, not-false b h, ← f, not-true w g)
-
-pub and-third : (r b w x y z : Bool) → b ≡ x → not b ≡ false → w ≡ y → not w ≡ false → r ≡ z → r ≡ (x && (y && z))
-and-third r b w x y z e h f g k = rw (← e, not-false b h, ← f, not-false w g) k
+pub and-behind : (r b x y : Bool) → b ≡ x → not b ≡ false → r ≡ y → r ≡ (x && y)
+and-behind r b x y e h k = rw (← e, not-false b h) k
 
 pub task-arm : (r : Bool) (task k : ChipTask) (n : ℕ) → task ≡ k → r ≡ chipFits k n → r ≡ chipFits task n
 task-arm r task k n e h = rw e h
@@ -52,8 +49,7 @@ valid-arm r c k n e h = rw e h
 pub ruleset ways = (
   tests,
   and-first,
-  and-second,
-  and-third,
+  and-behind,
   task-arm,
   mask-over,
   mask-low,

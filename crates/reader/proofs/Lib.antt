@@ -6,7 +6,9 @@ pub mod RequestWays
 pub mod RequestMeant
 pub mod RequestTaken
 pub mod RequestOneReply
+pub mod AnswerPieces
 pub mod AnswerWays
+pub mod AnswerInside
 pub mod AnswerRead
 pub mod AnswerRight
 pub mod AnswerErrors
@@ -14,6 +16,7 @@ pub mod AnswerOneReply
 pub mod TagsLabelRead
 pub mod TagsChipRead
 pub mod TagsMade
+pub mod TagsShapes
 pub mod TagsLabelGiven
 pub mod TagsChipGiven
 pub mod TagsCommand

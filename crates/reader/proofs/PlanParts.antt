@@ -19,6 +19,7 @@ use Rattle.frame.proofs.Puts.{laid-none, laid-number, laid-bytes, laid-seal, la
 use Rattle.request.specs.Table.{rowOf}
 use Rattle.request.specs.declared.table.Task.{Task}
 use Rattle.request.specs.declared.table.Row.{Row}
+use Rattle.request.specs.declared.label.Params.{Params}
 use Rattle.request.specs.declared.label.Target.{Target}
 use Rattle.request.specs.declared.label.Target.the-variants.{Everyone, Selected, One}
 use Rattle.request.specs.declared.label.Family.{Family}
@@ -31,7 +32,7 @@ use Rattle.reader.specs.declared.command.Command.the-variants.{Inventory
 use Rattle.reader.specs.declared.writer.Plan.{Plan}
 use Rattle.reader.specs.declared.writer.Written.{Written}
 use Rattle.reader.specs.Command.{dataFits, chipFits, valid}
-use Rattle.reader.specs.Request.{uidPart, parameter, params, chipBytes, inventoryBytes, flags, content, atFront}
+use Rattle.reader.specs.Request.{uidPart, parameters, params, chipBytes, inventoryBytes, flags, content, atFront}
 use Rattle.reader.specs.Plan.{partsOf, uidCount, labelPlan, shortPlan, inventoryPlan, chipPlan, planOf, RangedFamily, RangedChip, Ranged, PlanFits}
 use Rattle.reader.proofs.CommandValid.{valid-inventory, valid-chip, valid-label, marker-small, write-listed, block-long}
 
@@ -68,17 +69,18 @@ uid-part One uid e = take-all 8 uid (omega arith)
 flat : (u q d : List ℕ) → ((u ++ q) ++ []) ++ d ≡ u ++ (q ++ d)
 flat u q d = simp (append-nil, append-assoc)
 
--- the parameter, where there is one
-par-part : (k p : ℕ) → k ≤ 1 → p < 256 → bytesOf k p ≡ take k (p ∷ [])
-par-part zero p h r = refl
-par-part (suc zero) p h r = rw (mod-eq-of-lt r)
-par-part (suc (suc k)) p h r = absurd (omega arith)
+-- the parameters, as many as there are
+par-part : (k p q : ℕ) → k ≤ 2 → p < 256 → q < 256 → bytesOf k (p + 256 * q) ≡ take k (p ∷ q ∷ [])
+par-part zero p q h r s = refl
+par-part (suc zero) p q h r s = rw (low p q r)
+par-part (suc (suc zero)) p q h r s = rw (low p q r, high p q r s)
+par-part (suc (suc (suc k))) p q h r s = absurd (omega arith)
 
 data-part : (block : Bool) (d : List ℕ) → take (if block then length d else 0) d ≡ (if block then d else [])
 data-part true d = take-length d
 data-part false d = refl
 
-label-parts : (to : Target) (option : Bool) (task : Task) (p : ℕ) (uid d : List ℕ) → p < 256 → length uid ≡ 8
+label-parts : (to : Target) (option : Bool) (task : Task) (p : Params) (uid d : List ℕ) → (p .first < 256) × (p .second < 256) → length uid ≡ 8
     → partsOf (labelPlan to option (rowOf task) p (length d)) uid d ≡ flags to option ∷ rowOf task .code ∷ (uidPart to uid ++ params (rowOf task) p d)
 unfolding partsOf
 label-parts to option task p uid d r l =
@@ -86,8 +88,14 @@ label-parts to option task p uid d r l =
     let s = flags-small to option in
     let row = rowOf task in
     let ok = row-fine task in
-    rw (low f (row .code) s, high f (row .code) s (ok .byte), uid-part to uid l, par-part (row .len - 4) p (omega arith) r, data-part (row .block) d)
-    (ap (λ (x : List ℕ). f ∷ row .code ∷ x) (flat (uidPart to uid) (parameter row p) (if row .block then d else [])))
+    rw (
+      low f (row .code) s,
+      high f (row .code) s (ok .byte),
+      uid-part to uid l,
+      par-part (row .len - 4) (p .first) (p .second) (omega arith) (r .0) (r .1),
+      data-part (row .block) d,
+    )
+    (ap (λ (x : List ℕ). f ∷ row .code ∷ x) (flat (uidPart to uid) (parameters row p) (if row .block then d else [])))
 
 -- ---- chips
 
@@ -151,7 +159,7 @@ data-small row n v = go (row .block) refl
     go true e = (block-long row n e v .1, omega arith)
     go false e = (omega arith, omega arith)
 
-label-fits : (to : Target) (option : Bool) (task : Task) (p n room : ℕ) → dataFits (rowOf task) n ≡ true → 64 ≤ room
+label-fits : (to : Target) (option : Bool) (task : Task) (p : Params) (n room : ℕ) → dataFits (rowOf task) n ≡ true → 64 ≤ room
     → PlanFits (labelPlan to option (rowOf task) p n) n room
 label-fits to option task p n room v h =
     let d = data-small (rowOf task) n v in

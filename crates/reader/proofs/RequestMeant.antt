@@ -6,7 +6,7 @@ use mathlib.Core.Bool.{Bool, true, false}
 use mathlib.Core.List.{List, [], _∷_, _++_, append-nil}
 use Prim.Native.Nat.{ℕ, _+_, _-_, _*_, _/_, _%_, _≤_}
 use native.Mathlib.Omega.{arith}
-use lib.ListN.{length, getD}
+use lib.ListN.{length}
 use lib.Seq.{length-take-le}
 use borrow.Author.Tests.{eq-eqb, ne-eqb}
 use Rattle.frame.specs.CheckSum.{framed}
@@ -14,6 +14,7 @@ use Rattle.request.specs.Table.{rowOf}
 use Rattle.request.specs.Label as labels
 use Rattle.request.specs.declared.table.Task.{Task}
 use Rattle.request.specs.declared.table.Row.{Row}
+use Rattle.request.specs.declared.label.Params.{Params}
 use Rattle.request.specs.declared.label.Target.{Target}
 use Rattle.request.specs.declared.label.Target.the-variants.{Everyone, Selected, One}
 use Rattle.request.specs.declared.label.Family.{Family}
@@ -30,7 +31,7 @@ use Rattle.reader.specs.declared.command.ChipTask.{ChipTask}
 use Rattle.reader.specs.declared.command.ChipTask.the-variants as p
 use Rattle.reader.specs.declared.command.Command.the-variants.{Inventory, Label, Chip}
 use Rattle.reader.specs.Command.{chipFits, valid}
-use Rattle.reader.specs.Request.{uidPart, parameter, params, flags, content, encode, uidMeant, labelMeant, chipMeant}
+use Rattle.reader.specs.Request.{uidPart, parameters, params, flags, content, encode, uidMeant, taken, labelMeant, chipMeant}
 use Rattle.reader.proofs.CommandValid.{LabelFacts, valid-inventory, valid-chip, valid-label, marker-small, read-listed, write-listed}
 
 -- ---- labels
@@ -42,30 +43,31 @@ flags-back Everyone option code uid ps h = everyone-back code ps option
 flags-back Selected option code uid ps h = selected-back code ps option
 flags-back One option code uid ps h = one-back code ps option uid h
 
--- a row's parameters are as long as the row says, and a block's data stands behind one
-row-back : (to : Target) (option : Bool) (task : Task) (row : Row) (p : ℕ) (d : List ℕ) → RowFine task row → LabelFacts row to option (length d)
-    → labels.byRow to option (params row p d) row ≡ k.Do to task (getD (parameter row p) 0 0) option
-unfolding labels.byRow
+-- a row's parameters are as many as the row says, and a block's data stands behind one
+row-back : (to : Target) (option : Bool) (task : Task) (row : Row) (p : Params) (d : List ℕ) → RowFine task row → LabelFacts row to option p (length d)
+    → labels.byRow to option (params row p d) row ≡ k.Do to task (taken row p) option
+unfolding labels.byRow taken
 row-back to option task row p d ok v = go (row .block) refl
   where
-    go : (b : Bool) → row .block ≡ b → labels.byRow to option (params row p d) row ≡ k.Do to task (getD (parameter row p) 0 0) option
+    go : (b : Bool) → row .block ≡ b → labels.byRow to option (params row p d) row ≡ k.Do to task (taken row p) option
     go true e = rw (e, v .target, ok .block e, ok .named)
     go false e =
-        let l : length (parameter row p ++ []) + 4 ≡ row .len =
-        ap (λ (s : List ℕ). length s + 4) (append-nil (parameter row p)) ∙ omega (arith, length-take-le (row .len - 4) (p ∷ []) (omega arith))
+        let l : length (parameters row p ++ []) + 4 ≡ row .len =
+        ap (λ (s : List ℕ). length s + 4) (append-nil (parameters row p))
+        ∙ omega (arith, length-take-le (row .len - 4) (p .first ∷ p .second ∷ []) (omega arith))
         in
-        rw (e, v .target, eq-eqb _ _ l, v .allowed, ok .named, append-nil (parameter row p))
+        rw (e, v .target, eq-eqb _ _ l, v .allowed, ok .named, append-nil (parameters row p))
 
 -- code and parameters are read back
-call-back : (to : Target) (option : Bool) (task : Task) (p : ℕ) (d : List ℕ) → LabelFacts (rowOf task) to option (length d)
-    → labels.call to (rowOf task .code) option (params (rowOf task) p d) ≡ k.Do to task (getD (parameter (rowOf task) p) 0 0) option
+call-back : (to : Target) (option : Bool) (task : Task) (p : Params) (d : List ℕ) → LabelFacts (rowOf task) to option p (length d)
+    → labels.call to (rowOf task .code) option (params (rowOf task) p d) ≡ k.Do to task (taken (rowOf task) p) option
 unfolding labels.call labels.checked
 call-back to option task p d v =
     let ok = row-fine task in
     rw (ok .other, ok .found) (row-back to option task (rowOf task) p d ok v)
 
 -- a label takes a label command as meant
-pub label-meant : (to : Target) (option : Bool) (task : Task) (p : ℕ) (uid d : List ℕ) → valid (Label to option task p) (length d) ≡ true
+pub label-meant : (to : Target) (option : Bool) (task : Task) (p : Params) (uid d : List ℕ) → valid (Label to option task p) (length d) ≡ true
     → length uid ≡ 8 → labels.decode (encode (Label to option task p) uid d) ≡ labelMeant to option task p uid
 unfolding encode content labelMeant
 label-meant to option task p uid d v h =
@@ -73,7 +75,7 @@ label-meant to option task p uid d v h =
     ∙ ap (λ (x : Call). record { uid = uidMeant to uid; call = x }) (call-back to option task p d (valid-label to option task p (length d) v))
 
 -- and the bytes that go with a block
-pub data-meant : (to : Target) (option : Bool) (task : Task) (p : ℕ) (uid d : List ℕ) → length uid ≡ 8 → rowOf task .block ≡ true
+pub data-meant : (to : Target) (option : Bool) (task : Task) (p : Params) (uid d : List ℕ) → length uid ≡ 8 → rowOf task .block ≡ true
     → labels.dataOf (encode (Label to option task p) uid d) ≡ d
 unfolding encode content
 data-meant to option task p uid d h e = rw (e, row-fine task .block e) (go to option)
@@ -81,13 +83,13 @@ data-meant to option task p uid d h e = rw (e, row-fine task .block e) (go to op
     x : ℕ
     x = rowOf task .code
 
-    go : (to : Target) (option : Bool) → labels.dataOf (framed (flags to option ∷ x ∷ (uidPart to uid ++ (p ∷ d)))) ≡ d
-    go Everyone true = data-open-back 66 x p d refl
-    go Everyone false = data-open-back 2 x p d refl
-    go Selected true = data-open-back 82 x p d refl
-    go Selected false = data-open-back 18 x p d refl
-    go One true = data-one-back 98 x p uid d h refl
-    go One false = data-one-back 34 x p uid d h refl
+    go : (to : Target) (option : Bool) → labels.dataOf (framed (flags to option ∷ x ∷ (uidPart to uid ++ (p .first ∷ d)))) ≡ d
+    go Everyone true = data-open-back 66 x (p .first) d refl
+    go Everyone false = data-open-back 2 x (p .first) d refl
+    go Selected true = data-open-back 82 x (p .first) d refl
+    go Selected false = data-open-back 18 x (p .first) d refl
+    go One true = data-one-back 98 x (p .first) uid d h refl
+    go One false = data-one-back 34 x (p .first) uid d h refl
 
 -- an Inventory
 pub inventory-meant : (to : Target) (option : Bool) (family : Family) (sixteen : Bool) (bits mask : ℕ) (uid d : List ℕ)

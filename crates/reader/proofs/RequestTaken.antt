@@ -10,6 +10,7 @@ use Rattle.request.specs.Table.{rowOf}
 use Rattle.request.specs.Label as labels
 use Rattle.request.specs.Chip as chips
 use Rattle.request.specs.declared.table.Task.the-variants as t
+use Rattle.request.specs.declared.label.Params.{Params}
 use Rattle.request.specs.declared.label.Target.{Target}
 use Rattle.request.specs.declared.label.Call.{Call}
 use Rattle.request.specs.declared.label.Call.the-variants as k
@@ -58,7 +59,7 @@ unsent-taken command uid d e f w =
       said = λ b. unsent-said r b none (length x) (length (bytesSent command d));
     }
   where
-    none : (to : Target) (p : ℕ) (option : Bool) → labelTakes command uid .call ≡ k.Do to t.Write p option → ⊥
+    none : (to : Target) (p : Params) (option : Bool) → labelTakes command uid .call ≡ k.Do to t.Write p option → ⊥
     none to p option q = false≢true (sym w ∙ ap sends q)
 
 -- or from bytes that are those sent

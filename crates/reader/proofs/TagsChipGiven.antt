@@ -9,7 +9,7 @@ use native.Mathlib.Omega.{arith}
 use lib.Dec.{lit<, eqb, ltb}
 use lib.ListN.{length, getD, replicate}
 use borrow.Author.Tests.{eqb-true, eq-eqb, ltb-true}
-use Rattle.frame.specs.Choose.{if_then_else_}
+use Rattle.frame.specs.Choose.{if_then_else_, gather}
 use Rattle.frame.specs.Number.{part, Bytes}
 use Rattle.frame.specs.CheckSum.{content, framed}
 use Rattle.frame.specs.Judge.{fine}
@@ -17,6 +17,7 @@ use Rattle.frame.proofs.Bools.{and-both, if-true, if-false}
 use Rattle.frame.proofs.Lists.{window, window-all}
 use Rattle.frame.proofs.Stores.{bytes-cons}
 use Rattle.frame.proofs.Numbers.{bytes-append, bytes-take}
+use Rattle.frame.proofs.Gather.{gather-bytes}
 use Rattle.request.specs.declared.label.Target.{Target}
 use Rattle.request.specs.declared.chip.Order.{Order}
 use Rattle.chip.specs.declared.step.Answer.{Answer}
@@ -36,11 +37,11 @@ use Rattle.reader.specs.Tags.{ChipGives}
 use Rattle.reader.proofs.CommandValid.{valid-chip, read-listed}
 use Rattle.reader.proofs.RequestMeant.{chip-meant}
 use Rattle.reader.proofs.AnswerRight.{NoRefusal, fits-true, told-right}
-use Rattle.reader.proofs.TagsMade.{bytes-none, bytes-same, again, bytes-again, again-part}
+use Rattle.reader.proofs.TagsMade.{bytes-none, bytes-same, gathered-part}
 
 -- every block s; UID, state and Chip_ID
 unfoldable chipMade : List ℕ → List ℕ → ℕ → ℕ → List ℕ
-chipMade s u state id = again 17 (window 4 0 s) ++ (window 8 0 u ++ (state ∷ id ∷ 0 ∷ 0 ∷ []))
+chipMade s u state id = gather 17 (λ i. window 4 0 s) ++ (window 8 0 u ++ (state ∷ id ∷ 0 ∷ 0 ∷ []))
 
 zeros : List ℕ
 zeros = replicate 8 0
@@ -48,21 +49,21 @@ zeros = replicate 8 0
 chip-bytes : (s u : List ℕ) (state id : ℕ) → Bytes (window 4 0 s) → Bytes (window 8 0 u) → state < 256 → id < 256 → Bytes (chipMade s u state id)
 unfolding chipMade
 chip-bytes s u state id bs bu h i =
-    bytes-append (again 17 (window 4 0 s)) (window 8 0 u ++ (state ∷ id ∷ 0 ∷ 0 ∷ [])) (bytes-again 17 (window 4 0 s) bs)
+    bytes-append (gather 17 (λ i. window 4 0 s)) (window 8 0 u ++ (state ∷ id ∷ 0 ∷ 0 ∷ [])) (gather-bytes 17 (λ i. window 4 0 s) (λ i l. bs))
     (bytes-append (window 8 0 u) (state ∷ id ∷ 0 ∷ 0 ∷ []) bu
     (bytes-cons state (id ∷ 0 ∷ 0 ∷ []) h (bytes-cons id (0 ∷ 0 ∷ []) i (bytes-cons 0 (0 ∷ []) (lit< tt) (bytes-cons 0 [] (lit< tt) bytes-none)))))
 
 chip-long : (s u : List ℕ) (state id : ℕ) → length (chipMade s u state id) ≡ 80
-unfolding chipMade again
+unfolding chipMade gather
 chip-long s u state id = refl
 
 -- in states 2 and 3 it is well-formed
 inventory-rules : (s u : List ℕ) (id : ℕ) → chip.chipRules (chipMade s u 2 id) ≡ fine
-unfolding chipMade again chip.chipRules
+unfolding chipMade gather chip.chipRules
 inventory-rules s u id = refl
 
 selected-rules : (s u : List ℕ) (id : ℕ) → chip.chipRules (chipMade s u 3 id) ≡ fine
-unfolding chipMade again chip.chipRules
+unfolding chipMade gather chip.chipRules
 selected-rules s u id = refl
 
 chip-block : (s u : List ℕ) (state id n : ℕ) → listed n ≡ true → part (chip.placeOf n) 4 (chipMade s u state id) ≡ window 4 0 s
@@ -70,41 +71,41 @@ unfolding chipMade listed chip.placeOf
 chip-block s u state id n h = go (ltb n 16) (eqb n 255) h (ltb-true n 16) (eqb-true n 255)
   where
     go : (x y : Bool) → (x || y) ≡ true → (x ≡ true → n < 16) → (y ≡ true → n ≡ 255)
-        → part (if x then 4 * n else 64) 4 (again 17 (window 4 0 s) ++ (window 8 0 u ++ (state ∷ id ∷ 0 ∷ 0 ∷ []))) ≡ window 4 0 s
+        → part (if x then 4 * n else 64) 4 (gather 17 (λ i. window 4 0 s) ++ (window 8 0 u ++ (state ∷ id ∷ 0 ∷ 0 ∷ []))) ≡ window 4 0 s
     go true y e f g =
         let l : n < 16 = f refl in
-        again-part [] n 17 (window 4 0 s) (window 8 0 u ++ (state ∷ id ∷ 0 ∷ 0 ∷ [])) (4 * n) (omega arith) (omega arith)
-    go false y e f g = again-part [] 16 17 (window 4 0 s) (window 8 0 u ++ (state ∷ id ∷ 0 ∷ 0 ∷ [])) 64 (lit< tt) refl
+        gathered-part [] 4 17 n (λ i. window 4 0 s) (window 8 0 u ++ (state ∷ id ∷ 0 ∷ 0 ∷ [])) (4 * n) (λ i l. refl) (omega arith) (omega arith)
+    go false y e f g = gathered-part [] 4 17 16 (λ i. window 4 0 s) (window 8 0 u ++ (state ∷ id ∷ 0 ∷ 0 ∷ [])) 64 (λ i l. refl) (lit< tt) refl
 
 chip-uid : (s u : List ℕ) (state id : ℕ) → part 68 8 (chipMade s u state id) ≡ window 8 0 u
-unfolding chipMade again
+unfolding chipMade gather
 chip-uid s u state id = refl
 
 -- ---- what it says
 
 module _ (s u : List ℕ) (id : ℕ) where
   initiate-said : (draw : ℕ) (d : List ℕ) → chip.saidChip (chipMeant p.Initiate d) draw (chipMade s u 2 id) ≡ a.Id draw
-  unfolding chipMade again chipMeant chip.saidChip chip.stepped step.act step.initiate step.chosen chip.loadOf
+  unfolding chipMade gather chipMeant chip.saidChip chip.stepped step.act step.initiate step.chosen chip.loadOf
   initiate-said draw d = refl
 
   pcall-said : (d : List ℕ) → id % 16 ≡ 0 → chip.saidChip (chipMeant p.Pcall d) 0 (chipMade s u 2 id) ≡ a.Id id
-  unfolding chipMade again chipMeant chip.saidChip chip.stepped step.act step.pcall step.chosen chip.loadOf
+  unfolding chipMade gather chipMeant chip.saidChip chip.stepped step.act step.pcall step.chosen chip.loadOf
   pcall-said d h = ap a.Id (let e : id / 16 * 16 + 0 ≡ id = omega arith in e)
 
   marker-said : (n draw : ℕ) (d : List ℕ) → id % 16 ≡ n → chip.saidChip (chipMeant (p.Marker n) d) draw (chipMade s u 2 id) ≡ a.Id id
-  unfolding chipMade again chipMeant chip.saidChip chip.stepped step.act step.marker chip.loadOf
+  unfolding chipMade gather chipMeant chip.saidChip chip.stepped step.act step.marker chip.loadOf
   marker-said n draw d h = ap (λ (x : Stepped). x .answer) (if-true (eqb (id % 16) n) _ _ (eq-eqb (id % 16) n h))
 
   select-said : (draw : ℕ) (d : List ℕ) → chip.saidChip (chipMeant (p.Select id) d) draw (chipMade s u 3 id) ≡ a.Id id
-  unfolding chipMade again chipMeant chip.saidChip chip.stepped step.act step.select chip.loadOf
+  unfolding chipMade gather chipMeant chip.saidChip chip.stepped step.act step.select chip.loadOf
   select-said draw d = ap (λ (x : Stepped). x .answer) (if-false (not (eqb id id)) _ _ (ap not (eq-eqb id id refl)))
 
   read-said : (n draw : ℕ) (d : List ℕ) → chip.saidChip (chipMeant (p.Read n) d) draw (chipMade s u 3 id) ≡ a.Block n
-  unfolding chipMade again chipMeant chip.saidChip chip.stepped step.act step.read chip.loadOf
+  unfolding chipMade gather chipMeant chip.saidChip chip.stepped step.act step.read chip.loadOf
   read-said n draw d = refl
 
   uid-said : (draw : ℕ) (d : List ℕ) → chip.saidChip (chipMeant p.Uid d) draw (chipMade s u 3 id) ≡ a.Uid
-  unfolding chipMade again chipMeant chip.saidChip chip.stepped step.act step.uid chip.loadOf
+  unfolding chipMade gather chipMeant chip.saidChip chip.stepped step.act step.uid chip.loadOf
   uid-said draw d = refl
 
 -- ---- frames

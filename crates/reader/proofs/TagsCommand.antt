@@ -66,7 +66,7 @@ chip-bytes (x.Id id) b g = refl
 chip-bytes (x.Block n) b g = refl
 chip-bytes x.Uid b g = refl
 
--- .. and the bytes whose place the reading tells are those of the block that it gives
+-- .. and the bytes whose place the reading tells are those of the blocks that it gives
 pub given-bytes : (command : Command) (uid d g : List ℕ) → valid command (length d) ≡ true → length uid ≡ 8
     → (y : Gives command (encode command uid d) g)
     → bytesTold (readingOf command uid (length d) g .meaning) g ≡ givenBytes command (encode command uid d) g y
@@ -90,6 +90,9 @@ label-plain a.Done b s h = refl
 label-plain a.Found b s h = refl
 label-plain (a.Block n true) b s h = refl
 label-plain (a.Block n false) b s h = refl
+label-plain (a.Blocks n more) b s h = refl
+label-plain (a.LocksAndBlocks n more) b s h = refl
+label-plain (a.Locks n more) b s h = refl
 label-plain a.Info b s h = refl
 
 chip-plain : (y : chip.Answer) (b : List ℕ) → chipAnswer.speaks y ≡ true → Plain (chipMeaning y b)
@@ -130,6 +133,9 @@ success-numbered (m.Info dsfid afi blocks size ic) h = refl
 success-numbered (m.Id id) h = refl
 success-numbered (m.Word word) h = refl
 success-numbered m.Uid h = refl
+success-numbered (m.Blocks place long count) h = refl
+success-numbered (m.LocksAndBlocks place long count) h = refl
+success-numbered (m.Locks place count) h = refl
 
 success-no-error : (y : Meaning) → success y ≡ true → (code : ℕ) → y ≡ m.Error code → ⊥
 unfolding success
@@ -142,7 +148,7 @@ unfolding Gives Ranged valid
 read-given (Inventory to option family true bits mask) uid d g hu bu r bs h = sixteen-given to option family bits mask uid d g r bs (success-numbered _ h)
 read-given (Inventory to option family false bits mask) uid d g hu bu r bs h = one-slot-given to option family bits mask uid d g r bs (success-numbered _ h)
 read-given (Label to option task p) uid d g hu bu r bs h =
-    label-given to option task p uid d g hu bu r bs (success-numbered _ h) (success-no-error _ h)
+    label-given to option task p uid d g hu bu (r .0) bs (success-numbered _ h) (success-no-error _ h)
 read-given (Chip to option task) uid d g hu bu r bs h = chip-given to option task uid d g bs (success-numbered _ h)
 read-given (Other kind code) uid d g hu bu r bs h =
     absurd (false≢true (told-right (Other kind code) uid (length d) g bs (success-numbered _ h) .fields))

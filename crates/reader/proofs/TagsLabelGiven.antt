@@ -6,23 +6,24 @@ use mathlib.Core.Logic.{_⊎_, inl, inr}
 use mathlib.Core.Bool.{Bool, true, false, not, _&&_, _||_, false≢true}
 use mathlib.Core.List.{List, [], _∷_, _++_}
 use Prim.Native.Nat.{ℕ, zero, suc, _+_, _-_, _/_, _%_, _^_, _≤_, _<_}
-use native.Mathlib.Nat.{mod-lt}
+use native.Mathlib.Nat.{add-zero, mod-lt}
 use native.Mathlib.Omega.{arith}
 use lib.Dec.{lit<, eqb, leb}
-use lib.ListN.{length, getD, take, drop, replicate, length-drop, length-replicate}
-use lib.Seq.{drop-cons, length-take-le}
+use lib.ListN.{length, getD, drop, replicate, length-drop, length-replicate}
+use lib.Seq.{length-take-le}
 use borrow.Author.Tests.{eqb-true, eq-eqb, le-ltb, leb-true}
-use Rattle.frame.specs.Choose.{if_then_else_}
+use Rattle.frame.specs.Choose.{if_then_else_, gather}
 use Rattle.frame.specs.Number.{num, part, Bytes}
 use Rattle.frame.specs.CheckSum.{content, framed}
 use Rattle.frame.specs.Ending.{endsIn, endsInSlot}
 use Rattle.frame.proofs.Bools.{and-both, or-right, eqb-same, if-true, if-false}
 use Rattle.frame.proofs.Lists.{window, window-take, window-all}
-use Rattle.frame.proofs.Numbers.{bytes-take, bytes-drop, bytes-part}
+use Rattle.frame.proofs.Numbers.{bytes-take, bytes-part}
+use Rattle.frame.proofs.Gather.{gather-ext}
 use Rattle.request.specs.Table.{rowOf, hasAnswer}
 use Rattle.request.specs.declared.table.Task.{Task}
 use Rattle.request.specs.declared.table.Task.the-variants as t
-use Rattle.request.specs.declared.table.Success.the-variants.{Done, Block, Info}
+use Rattle.request.specs.declared.label.Params.{Params}
 use Rattle.request.specs.declared.label.Target.{Target}
 use Rattle.request.specs.declared.label.Target.the-variants.{Everyone, Selected, One}
 use Rattle.request.specs.declared.label.Family.{Family}
@@ -36,7 +37,7 @@ use Rattle.label.specs.declared.step.Stepped.{Stepped}
 use Rattle.label.specs.Step as steps
 use Rattle.label_body.specs.Body as label
 use Rattle.label_body.specs.Locks.{lockOn}
-use Rattle.label_body.specs.Answer.{speaks, blockBytes, answerFrame}
+use Rattle.label_body.specs.Answer.{speaks, blockBytes, blocksBytes, locksBytes, answerFrame}
 use Rattle.label_body.specs.Facts.{LabelFine}
 use Rattle.label_body.specs.Slots.{takesPart, during}
 use Rattle.label_body.proofs.FactsFine.{fine-rules}
@@ -46,8 +47,8 @@ use Rattle.reader.specs.declared.command.Command.the-variants as c
 use Rattle.reader.specs.declared.answer.Meaning.the-variants as m
 use Rattle.reader.specs.declared.answer.Reading.{Reading}
 use Rattle.reader.specs.Command.{valid}
-use Rattle.reader.specs.Request.{parameter, encode, uidMeant, labelMeant}
-use Rattle.reader.specs.Answer.{said, isError, doneOf, blockOf, owned, infoOf, successOf, labelReading, foundOf, shapeOf, readingOf}
+use Rattle.reader.specs.Request.{encode, uidMeant, taken, labelMeant}
+use Rattle.reader.specs.Answer.{said, isError, doneOf, owned, infoOf, successOf, labelReading, foundOf, shapeOf, readingOf}
 use Rattle.reader.specs.Tags.{LabelGives, SlotGives, after}
 use Rattle.reader.specs.Plan.{RangedFamily}
 use Rattle.reader.proofs.CommandValid.{valid-inventory, valid-label, block-long}
@@ -56,15 +57,16 @@ use Rattle.reader.proofs.AnswerRead.{held}
 use Rattle.reader.proofs.AnswerRight.{NoRefusal, fits-true, told-right}
 use Rattle.reader.proofs.TagsLabelRead.{after-slot}
 use Rattle.reader.proofs.TagsMade.{bytes-same, made, Body, made-body}
+use Rattle.reader.proofs.TagsShapes.{tellBlock, tellLock, Shape, block-shape, blocks-shape, locks-shape}
 
 -- a label's answer that is no error is a success
-plain-success : (to : Target) (option : Bool) (task : Task) (uid s : List ℕ) → NoRefusal (labelReading to option task uid s)
-    → ((code : ℕ) → labelReading to option task uid s .meaning ≡ m.Error code → ⊥) → NoRefusal (successOf to option (rowOf task .success) uid s)
+plain-success : (to : Target) (option : Bool) (task : Task) (p : Params) (uid s : List ℕ) → NoRefusal (labelReading to option task p uid s)
+    → ((code : ℕ) → labelReading to option task p uid s .meaning ≡ m.Error code → ⊥) → NoRefusal (successOf to option (rowOf task .success) (p .second) uid s)
 unfolding labelReading
-plain-success to option task uid s h ne = go (hasAnswer (rowOf task .success) && isError s) h ne
+plain-success to option task p uid s h ne = go (hasAnswer (rowOf task .success) && isError s) h ne
   where
     r : Reading
-    r = successOf to option (rowOf task .success) uid s
+    r = successOf to option (rowOf task .success) (p .second) uid s
 
     go : (b : Bool) → NoRefusal (if b then said (m.Error (getD s 1 0)) else r)
         → ((code : ℕ) → (if b then said (m.Error (getD s 1 0)) else r) .meaning ≡ m.Error code → ⊥) → NoRefusal r
@@ -112,14 +114,6 @@ own-uid Everyone uid = refl
 own-uid Selected uid = refl
 own-uid One uid = eq-eqb (num uid) (num uid) refl
 
--- a task's parameter as it is taken
-abbrev taken : Task → ℕ → ℕ
-taken task p = getD (parameter (rowOf task) p) 0 0
-
-taken-small : (k p : ℕ) → p < 256 → getD (take k (p ∷ [])) 0 0 < 256
-taken-small zero p h = lit< tt
-taken-small (suc k) p h = h
-
 -- 00 alone
 zero-alone : (s : List ℕ) → NoRefusal (doneOf s) → s ≡ 0 ∷ []
 unfolding doneOf
@@ -131,60 +125,26 @@ done-frame : (b : List ℕ) → answerFrame a.Done b ≡ framed (0 ∷ [])
 unfolding answerFrame
 done-frame b = refl
 
--- 00, its lock with Option, a block
-abbrev blockContent : Bool → ℕ → List ℕ → List ℕ
-blockContent option lock s = 0 ∷ ((if option then lock ∷ [] else []) ++ s)
+-- blocks and locks, each as it is told
+block-frame : (n : ℕ) (option : Bool) (b : List ℕ)
+    → answerFrame (a.Block n option) b ≡ framed (0 ∷ gather 1 (λ i. tellBlock option (lockOn (n + i) b) (held (n + i) b)))
+unfolding answerFrame blockBytes gather
+block-frame n option b = rw (add-zero n) refl
 
-record Shape (option : Bool) (s : List ℕ) : Type 0 where
-  lock : ℕ
-  rest : List ℕ
-  low : lock ≤ 1
-  bytes : Bytes rest
-  least : 1 ≤ length rest
-  most : length rest ≤ 32
-  is : blockContent option lock rest ≡ s
+blocks-frame : (n more : ℕ) (option : Bool) (b : List ℕ)
+    → answerFrame (steps.several option n more) b ≡ framed (0 ∷ gather (more + 1) (λ i. tellBlock option (lockOn (n + i) b) (held (n + i) b)))
+unfolding answerFrame blocksBytes blockBytes
+blocks-frame n more true b = refl
+blocks-frame n more false b = refl
 
-shape : (option : Bool) (s : List ℕ) → Bytes s → NoRefusal (blockOf option s) → Shape option s
-unfolding blockOf
-shape true s bs h =
-    let e0 = fits-true (leb 3 (length s) && (leb (length s) 34 && (eqb (getD s 0 0) 0 && leb (getD s 1 0) 1))) _ h in
-    let e1 = and-both (leb 3 (length s)) (leb (length s) 34 && (eqb (getD s 0 0) 0 && leb (getD s 1 0) 1)) e0 in
-    let e2 = and-both (leb (length s) 34) (eqb (getD s 0 0) 0 && leb (getD s 1 0) 1) (e1 .1) in
-    let e3 = and-both (eqb (getD s 0 0) 0) (leb (getD s 1 0) 1) (e2 .1) in
-    let lo = leb-true 3 (length s) (e1 .0) in
-    let hi = leb-true (length s) 34 (e2 .0) in
-    let z = eqb-true (getD s 0 0) 0 (e3 .0) in
-    let l = length-drop 2 s in
-    record {
-      lock = getD s 1 0;
-      rest = drop 2 s;
-      low = leb-true (getD s 1 0) 1 (e3 .1);
-      bytes = bytes-drop 2 s bs;
-      least = omega arith;
-      most = omega arith;
-      is = sym (drop-cons s 0 0 (omega arith) ∙ ap₂ (λ (x : ℕ) (l : List ℕ). x ∷ l) z (drop-cons s 1 0 (omega arith)));
-    }
-shape false s bs h =
-    let e0 = fits-true (leb 2 (length s) && (leb (length s) 33 && eqb (getD s 0 0) 0)) _ h in
-    let e1 = and-both (leb 2 (length s)) (leb (length s) 33 && eqb (getD s 0 0) 0) e0 in
-    let e2 = and-both (leb (length s) 33) (eqb (getD s 0 0) 0) (e1 .1) in
-    let lo = leb-true 2 (length s) (e1 .0) in
-    let hi = leb-true (length s) 33 (e2 .0) in
-    let l = length-drop 1 s in
-    record {
-      lock = 0;
-      rest = drop 1 s;
-      low = omega arith;
-      bytes = bytes-drop 1 s bs;
-      least = omega arith;
-      most = omega arith;
-      is = sym (drop-cons s 0 0 (omega arith) ∙ ap (λ (x : ℕ). x ∷ drop 1 s) (eqb-true (getD s 0 0) 0 (e2 .1)));
-    }
+several-speaks : (option : Bool) (n more : ℕ) → speaks (steps.several option n more) ≡ true
+several-speaks true n more = refl
+several-speaks false n more = refl
 
-block-frame : (n : ℕ) (option : Bool) (lock : ℕ) (b s : List ℕ) → lockOn n b ≡ lock → held n b ≡ s
-    → answerFrame (a.Block n option) b ≡ framed (blockContent option lock s)
-unfolding answerFrame blockBytes
-block-frame n option lock b s h e = rw (h, e)
+locks-frame : (n more : ℕ) (b : List ℕ)
+    → answerFrame (a.Locks n more) b ≡ framed (0 ∷ gather (more + 1) (λ i. tellLock (lockOn (n + i) b) (held (n + i) b)))
+unfolding answerFrame locksBytes
+locks-frame n more b = refl
 
 -- what a label says of itself
 info-frame : (b s : List ℕ) → 14 ≤ length b → length s ≡ 15 → getD s 0 0 ≡ 0 → getD s 1 0 ≡ 0x0F → part 0 8 b ≡ part 2 8 s → getD b 8 0 ≡ getD s 10 0
@@ -204,13 +164,15 @@ no-option : (option : Bool) → (not option || false) ≡ true → option ≡ fa
 no-option true e = absurd (false≢true e)
 no-option false e = refl
 
-module _ (to : Target) (option : Bool) (p : ℕ) (uid d : List ℕ) (hu : length uid ≡ 8) (bu : Bytes uid) (hp : p < 256) where
+module _ (to : Target) (option : Bool) (p : Params) (uid d : List ℕ) (hu : length uid ≡ 8) (bu : Bytes uid) (hp : p .first < 256) where
   abbrev sent : Task → List ℕ
   sent task = encode (c.Label to option task p) uid d
 
   -- what b says to a task, where it acts
   abbrev Says : Task → List ℕ → Answer → Type 0
-  Says task b x = steps.perform task (taken task p) option (length (dataOf (sent task))) (lockOn (taken task p) b) (steps.ended (label.loadOf b)) .answer ≡ x
+  Says task b x =
+      let q = taken (rowOf task) p in
+      steps.perform task q option (length (dataOf (sent task))) (lockOn (q .first) b) (steps.ended (label.loadOf b)) .answer ≡ x
 
   module _ (task : Task) (v : valid (c.Label to option task p) (length d) ≡ true) where
     said-acts : (b : List ℕ) → getD b 14 0 ≡ 3 → steps.acts to (uidMeant to uid) (label.loadOf b) ≡ true → {x : Answer} → Says task b x
@@ -222,45 +184,50 @@ module _ (to : Target) (option : Bool) (p : ℕ) (uid d : List ℕ) (hu : length
         ∙ z
 
     -- a command's answer, from what one that acts says
-    asked : {b u s : List ℕ} {dsfid afi last ic lock : ℕ} (g : List ℕ) (x : Answer) → Body b u dsfid afi last ic lock s → owned to uid u ≡ true
+    asked : {b u : List ℕ} {dsfid afi last ic size : ℕ} {lock : ℕ → ℕ} {block : ℕ → List ℕ} (g : List ℕ) (x : Answer)
+        → Body b u dsfid afi last ic size lock block → owned to uid u ≡ true
         → Says task b x → speaks x ≡ true → answerFrame x b ≡ g → LabelGives (sent task) g
     asked {b} {u} g x y o z w i =
         give (sent task) b g _ x (y .bytes) (y .ok) (label-meant to option task p uid d v hu)
         (said-acts b (y .state) (acts-made to uid u b (y .state) (y .uid) o) z) w i
 
     -- k bytes in a block: those sent, or one
-    done-given : (s : List ℕ) (k : ℕ) → rowOf task .success ≡ Done → NoRefusal (successOf to option (rowOf task .success) uid s) → 1 ≤ k → k ≤ 32
-        → ((b x : List ℕ) → length x ≡ k → Body b uid 0 0 255 0 0 x → Says task b a.Done) → LabelGives (sent task) (framed s)
-    unfolding successOf
-    done-given s k e z lo hi f =
-        let x : List ℕ = replicate k 0 in
-        let l : length x ≡ k = length-replicate k 0 in
+    done-given : (s : List ℕ) (k : ℕ) → NoRefusal (doneOf s) → 1 ≤ k → k ≤ 32
+        → ((b : List ℕ) → Body b uid 0 0 255 0 k (λ i. 0) (λ i. replicate k 0) → Says task b a.Done) → LabelGives (sent task) (framed s)
+    done-given s k z lo hi f =
         let y =
-        made-body uid 0 0 255 0 0 x hu bu (lit< tt) (lit< tt) (lit< tt) (lit< tt) (omega arith) (bytes-same k 0 (lit< tt)) (omega arith) (omega arith)
+        made-body uid 0 0 255 0 k (λ i. 0) (λ i. replicate k 0) hu bu (lit< tt) (lit< tt) (lit< tt) (lit< tt) lo hi (λ i l. omega arith)
+        (λ i l. bytes-same k 0 (lit< tt)) (λ i l. length-replicate k 0)
         in
-        let b = made uid 0 0 255 0 0 x in
-        asked (framed s) a.Done y (own-uid to uid) (f b x l y) refl (done-frame b ∙ ap framed (sym (zero-alone s (rw e at z))))
+        let b = made uid 0 0 255 0 k (λ i. 0) (λ i. replicate k 0) in
+        asked (framed s) a.Done y (own-uid to uid) (f b y) refl (done-frame b ∙ ap framed (sym (zero-alone s z)))
 
-    -- every block holds what was read
-    block-given : (s : List ℕ) → Bytes s → rowOf task .success ≡ Block → NoRefusal (successOf to option (rowOf task .success) uid s)
-        → ((b : List ℕ) → getD b 11 0 ≡ 255 → Says task b (a.Block (taken task p) option)) → LabelGives (sent task) (framed s)
-    unfolding successOf
-    block-given s bs e z f =
-        let w = shape option s bs (rw e at z) in
-        let y = made-body uid 0 0 255 0 (w .lock) (w .rest) hu bu (lit< tt) (lit< tt) (lit< tt) (lit< tt) (w .low) (w .bytes) (w .least) (w .most) in
-        let b = made uid 0 0 255 0 (w .lock) (w .rest) in
-        let n = taken task p in
-        let h : n ≤ 255 = omega (arith, taken-small (rowOf task .len - 4) p hp) in
-        asked (framed s) (a.Block n option) y (own-uid to uid) (f b (y .blocks)) refl
-        (block-frame n option (w .lock) b (w .rest) (y .locked n h) (y .block n h) ∙ ap framed (w .is))
+    -- from block n on, blocks and locks are what was read; those before are as block n
+    held-given : {tell : ℕ → List ℕ → List ℕ} (s : List ℕ) (n more : ℕ) (x : Answer) → n + more ≤ 255 → Shape tell (more + 1) s
+        → ((b : List ℕ) → getD b 11 0 ≡ n + more → Says task b x) → speaks x ≡ true
+        → ((b : List ℕ) → answerFrame x b ≡ framed (0 ∷ gather (more + 1) (λ i. tell (lockOn (n + i) b) (held (n + i) b)))) → LabelGives (sent task) (framed s)
+    held-given {tell} s n more x h w f q r =
+        let lock : ℕ → ℕ = λ i. w .lock (i - n) in
+        let block : ℕ → List ℕ = λ i. w .block (i - n) in
+        let y =
+        made-body uid 0 0 (n + more) 0 (w .size) lock block hu bu (lit< tt) (lit< tt) (omega arith) (lit< tt) (w .least) (w .most)
+        (λ i l. w .low (i - n) (omega arith)) (λ i l. w .bytes (i - n) (omega arith)) (λ i l. w .long (i - n) (omega arith))
+        in
+        let b = made uid 0 0 (n + more) 0 (w .size) lock block in
+        let same : (i : ℕ) → i < more + 1 → tell (lockOn (n + i) b) (held (n + i) b) ≡ tell (w .lock i) (w .block i) =
+        λ i l.
+        let e : n + i - n ≡ i = omega arith in
+        ap₂ tell (y .locked (n + i) (omega arith) ∙ ap (λ (j : ℕ). w .lock j) e) (y .held (n + i) (omega arith) ∙ ap (λ (j : ℕ). w .block j) e)
+        in
+        asked (framed s) x y (own-uid to uid) (f b (y .blocks)) q
+        (r b ∙ ap (λ (l : List ℕ). framed (0 ∷ l)) (gather-ext (more + 1) _ _ same) ∙ ap framed (w .is))
 
     -- a label with the numbers that were read
-    info-given : (s : List ℕ) → Bytes s → rowOf task .success ≡ Info → NoRefusal (successOf to option (rowOf task .success) uid s)
-        → ((b : List ℕ) → Says task b a.Info) → LabelGives (sent task) (framed s)
-    unfolding successOf infoOf
-    info-given s bs e z f =
+    info-given : (s : List ℕ) → Bytes s → NoRefusal (infoOf to uid s) → ((b : List ℕ) → Says task b a.Info) → LabelGives (sent task) (framed s)
+    unfolding infoOf
+    info-given s bs z f =
         let own = owned to uid (part 2 8 s) in
-        let e0 = fits-true (eqb (length s) 15 && (eqb (getD s 0 0) 0 && (eqb (getD s 1 0) 0x0F && (leb (getD s 13 0) 31 && own)))) _ (rw e at z) in
+        let e0 = fits-true (eqb (length s) 15 && (eqb (getD s 0 0) 0 && (eqb (getD s 1 0) 0x0F && (leb (getD s 13 0) 31 && own)))) _ z in
         let e1 = and-both (eqb (length s) 15) (eqb (getD s 0 0) 0 && (eqb (getD s 1 0) 0x0F && (leb (getD s 13 0) 31 && own))) e0 in
         let e2 = and-both (eqb (getD s 0 0) 0) (eqb (getD s 1 0) 0x0F && (leb (getD s 13 0) 31 && own)) (e1 .1) in
         let e3 = and-both (eqb (getD s 1 0) 0x0F) (leb (getD s 13 0) 31 && own) (e2 .1) in
@@ -270,47 +237,65 @@ module _ (to : Target) (option : Bool) (p : ℕ) (uid d : List ℕ) (hu : length
         let u = part 2 8 s in
         let lu : length u ≡ 8 = length-take-le 8 (drop 2 s) (rw (length-drop 2 s) (omega arith)) in
         let size = suc (getD s 13 0) in
-        let x : List ℕ = replicate size 0 in
-        let l : length x ≡ size = length-replicate size 0 in
+        let block : ℕ → List ℕ = λ i. replicate size 0 in
         let y =
-        made-body u (getD s 10 0) (getD s 11 0) (getD s 12 0) (getD s 14 0) 0 x lu (bytes-part 2 8 s bs) (bs 10) (bs 11) (bs 12) (bs 14) (omega arith)
-        (bytes-same size 0 (lit< tt)) (omega arith) (omega arith)
+        made-body u (getD s 10 0) (getD s 11 0) (getD s 12 0) (getD s 14 0) size (λ i. 0) block lu (bytes-part 2 8 s bs) (bs 10) (bs 11) (bs 12) (bs 14)
+        (omega arith) (omega arith) (λ i l. omega arith) (λ i l. bytes-same size 0 (lit< tt)) (λ i l. length-replicate size 0)
         in
-        let b = made u (getD s 10 0) (getD s 11 0) (getD s 12 0) (getD s 14 0) 0 x in
+        let b = made u (getD s 10 0) (getD s 11 0) (getD s 12 0) (getD s 14 0) size (λ i. 0) block in
         asked (framed s) a.Info y (e4 .1) (f b) refl
         (info-frame b s (omega (arith, sized-long b (y .ok .sized))) hs (eqb-true (getD s 0 0) 0 (e2 .0)) (eqb-true (getD s 1 0) 0x0F (e3 .0)) (y .uid)
-        (y .dsfids) (y .afis) (y .blocks) (omega (arith, y .size, l)) (y .ics))
+        (y .dsfids) (y .afis) (y .blocks) (omega (arith, y .sizes)) (y .ics))
+
+  -- the last of the blocks that two parameters name has a number
+  range-small : (task : Task) → valid (c.Label to option task p) (length d) ≡ true → rowOf task .len ≡ 6 → p .first + p .second ≤ 255
+  range-small task v e = leb-true (p .first + p .second) 255 (rw e at (valid-label to option task p (length d) v .range))
 
   -- ---- a success read to a label command is one that some well-formed label gives
 
   task-given : (task : Task) (s : List ℕ) → valid (c.Label to option task p) (length d) ≡ true → Bytes s
-      → NoRefusal (successOf to option (rowOf task .success) uid s) → LabelGives (sent task) (framed s)
-  unfolding rowOf successOf steps.perform steps.readBlock steps.writeBlock steps.lockBlock steps.writeAfi steps.lockAfi steps.writeDsfid steps.lockDsfid
-      steps.ended label.loadOf
+      → NoRefusal (successOf to option (rowOf task .success) (p .second) uid s) → LabelGives (sent task) (framed s)
+  unfolding rowOf taken successOf steps.perform steps.readBlock steps.writeBlock steps.lockBlock steps.readBlocks steps.readLocks steps.writeAfi steps.lockAfi
+      steps.writeDsfid steps.lockDsfid steps.ended label.loadOf
   task-given t.Quiet s v bs z = absurd (omega arith)
-  task-given t.Read s v bs z = block-given t.Read v s bs refl z (λ b e. rw (le-ltb (getD b 11 0) p (omega arith)))
+  task-given t.Read s v bs z =
+      let n = p .first in
+      held-given t.Read v s n 0 (a.Block n option) (omega arith) (block-shape option s bs z) (λ b e. rw (le-ltb (getD b 11 0) n (omega arith))) refl
+      (block-frame n option)
   task-given t.Write s v bs z =
+      let n = p .first in
       let w = valid-label to option t.Write p (length d) v in
       let l = block-long (rowOf t.Write) (length d) refl (w .count) in
-      done-given t.Write v s (length d) refl z (l .0) (l .1)
-      (λ b x h y.
+      done-given t.Write v s (length d) z (l .0) (l .1)
+      (λ b y.
       rw (
-        eq-eqb (length (dataOf (sent t.Write))) (getD b 12 0 + 1) (ap length (data-meant to option t.Write p uid d hu refl) ∙ sym h ∙ sym (y .size)),
+        eq-eqb (length (dataOf (sent t.Write))) (getD b 12 0 + 1) (ap length (data-meant to option t.Write p uid d hu refl) ∙ sym (y .sizes)),
         no-option option (w .allowed),
-        le-ltb (getD b 11 0) p (omega (arith, y .blocks)),
-        y .locked p (omega arith),
+        le-ltb (getD b 11 0) n (omega (arith, y .blocks)),
+        y .locked n (omega arith),
       ))
   task-given t.Lock s v bs z =
-      done-given t.Lock v s 1 refl z (omega arith) (omega arith) (λ b x h y. rw (le-ltb (getD b 11 0) p (omega (arith, y .blocks)), y .locked p (omega arith)))
-  task-given t.Select s v bs z = done-given t.Select v s 1 refl z (omega arith) (omega arith) (λ b x h y. refl)
-  task-given t.Ready s v bs z = done-given t.Ready v s 1 refl z (omega arith) (omega arith) (λ b x h y. refl)
-  task-given t.WriteAfi s v bs z = done-given t.WriteAfi v s 1 refl z (omega arith) (omega arith) (λ b x h y. rw (y .locks))
-  task-given t.LockAfi s v bs z = done-given t.LockAfi v s 1 refl z (omega arith) (omega arith) (λ b x h y. rw (y .locks))
-  task-given t.WriteDsfid s v bs z = done-given t.WriteDsfid v s 1 refl z (omega arith) (omega arith) (λ b x h y. rw (y .locks))
-  task-given t.LockDsfid s v bs z = done-given t.LockDsfid v s 1 refl z (omega arith) (omega arith) (λ b x h y. rw (y .locks))
-  task-given t.Info s v bs z = info-given t.Info v s bs refl z (λ b. refl)
+      let n = p .first in
+      done-given t.Lock v s 1 z (omega arith) (omega arith) (λ b y. rw (le-ltb (getD b 11 0) n (omega (arith, y .blocks)), y .locked n (omega arith)))
+  task-given t.ReadMany s v bs z =
+      let n = p .first in
+      let more = p .second in
+      held-given t.ReadMany v s n more (steps.several option n more) (range-small t.ReadMany v refl) (blocks-shape option (more + 1) s bs z)
+      (λ b e. rw (le-ltb (getD b 11 0) (n + more) (omega arith))) (several-speaks option n more) (blocks-frame n more option)
+  task-given t.Select s v bs z = done-given t.Select v s 1 z (omega arith) (omega arith) (λ b y. refl)
+  task-given t.Ready s v bs z = done-given t.Ready v s 1 z (omega arith) (omega arith) (λ b y. refl)
+  task-given t.WriteAfi s v bs z = done-given t.WriteAfi v s 1 z (omega arith) (omega arith) (λ b y. rw (y .locks))
+  task-given t.LockAfi s v bs z = done-given t.LockAfi v s 1 z (omega arith) (omega arith) (λ b y. rw (y .locks))
+  task-given t.WriteDsfid s v bs z = done-given t.WriteDsfid v s 1 z (omega arith) (omega arith) (λ b y. rw (y .locks))
+  task-given t.LockDsfid s v bs z = done-given t.LockDsfid v s 1 z (omega arith) (omega arith) (λ b y. rw (y .locks))
+  task-given t.Info s v bs z = info-given t.Info v s bs z (λ b. refl)
+  task-given t.Status s v bs z =
+      let n = p .first in
+      let more = p .second in
+      held-given t.Status v s n more (a.Locks n more) (range-small t.Status v refl) (locks-shape (more + 1) s z)
+      (λ b e. rw (le-ltb (getD b 11 0) (n + more) (omega arith))) refl (locks-frame n more)
 
-pub label-given : (to : Target) (option : Bool) (task : Task) (p : ℕ) (uid d f : List ℕ) → length uid ≡ 8 → Bytes uid → p < 256 → Bytes f
+pub label-given : (to : Target) (option : Bool) (task : Task) (p : Params) (uid d f : List ℕ) → length uid ≡ 8 → Bytes uid → p .first < 256 → Bytes f
     → NoRefusal (readingOf (c.Label to option task p) uid (length d) f)
     → ((code : ℕ) → readingOf (c.Label to option task p) uid (length d) f .meaning ≡ m.Error code → ⊥)
     → LabelGives (encode (c.Label to option task p) uid d) f
@@ -318,7 +303,7 @@ unfolding shapeOf
 label-given to option task p uid d f hu bu hp bs h ne =
     let y = told-right (c.Label to option task p) uid (length d) f bs h in
     let s = content f in
-    let w = plain-success to option task uid s (subst NoRefusal (y .shape) h) (λ code q. ne code (ap (λ (x : Reading). x .meaning) (y .shape) ∙ q)) in
+    let w = plain-success to option task p uid s (subst NoRefusal (y .shape) h) (λ code q. ne code (ap (λ (x : Reading). x .meaning) (y .shape) ∙ q)) in
     subst (LabelGives (encode (c.Label to option task p) uid d)) (sym (y .frame))
     (task-given to option p uid d hu bu hp task s (y .fields) (bytes-take (length f - 2) f bs) w)
 
@@ -351,7 +336,7 @@ record Seen (family : Family) (mask bits : ℕ) (s b : List ℕ) : Type 0 where
   frame : framed (0 ∷ getD b 8 0 ∷ part 0 8 b) ≡ framed s
 
 abbrev seer : Family → List ℕ → List ℕ
-seer family s = made (part 2 8 s) (getD s 1 0) (familyAfi family) 0 0 0 (0 ∷ [])
+seer family s = made (part 2 8 s) (getD s 1 0) (familyAfi family) 0 0 1 (λ i. 0) (λ i. 0 ∷ [])
 
 seen : (family : Family) (mask bits : ℕ) (s : List ℕ) → RangedFamily family → Bytes s → NoRefusal (foundOf bits mask s) → Seen family mask bits s
     (seer family s)
@@ -364,8 +349,8 @@ seen family mask bits s r bs h =
     let hs : length s ≡ 10 = eqb-true (length s) 10 (e1 .0) in
     let lu : length u ≡ 8 = length-take-le 8 (drop 2 s) (rw (length-drop 2 s) (omega arith)) in
     let y =
-    made-body u (getD s 1 0) (familyAfi family) 0 0 0 (0 ∷ []) lu (bytes-part 2 8 s bs) (bs 1) (afi-small family r) (lit< tt) (lit< tt) (omega arith)
-    (bytes-same 1 0 (lit< tt)) (omega arith) (omega arith)
+    made-body u (getD s 1 0) (familyAfi family) 0 0 1 (λ i. 0) (λ i. 0 ∷ []) lu (bytes-part 2 8 s bs) (bs 1) (afi-small family r) (lit< tt) (lit< tt)
+    (omega arith) (omega arith) (λ i l. omega arith) (λ i l. bytes-same 1 0 (lit< tt)) (λ i l. refl)
     in
     let w : 0 ∷ getD s 1 0 ∷ u ≡ s =
     ap₂ (λ (x : ℕ) (l : List ℕ). x ∷ getD s 1 0 ∷ l) (sym (eqb-true (getD s 0 0) 0 (e2 .0))) (sym (window-take 8 2 s (omega arith))) ∙ window-all 10 s hs

@@ -21,6 +21,7 @@ use Rattle.request.specs.declared.table.Task.{Task}
 use Rattle.request.specs.declared.table.Task.the-variants as t
 use Rattle.request.specs.declared.table.Success as row
 use Rattle.request.specs.declared.table.Success.the-variants as s
+use Rattle.request.specs.declared.label.Params.{Params}
 use Rattle.request.specs.declared.label.Target.{Target}
 use Rattle.request.specs.declared.label.Target.the-variants.{Everyone, Selected, One}
 use Rattle.request.specs.declared.label.Family.{Family}
@@ -44,24 +45,26 @@ use Rattle.reader.specs.declared.command.Command.{Command}
 use Rattle.reader.specs.declared.command.Command.the-variants as c
 use Rattle.reader.specs.declared.answer.Reading.{Reading}
 use Rattle.reader.specs.Command.{valid}
-use Rattle.reader.specs.Request.{parameter, encode, uidMeant, labelMeant, labelTakes}
+use Rattle.reader.specs.Request.{encode, uidMeant, taken, labelMeant, labelTakes}
 use Rattle.reader.specs.Answer.{errorCode, owned, readingOf}
 use Rattle.reader.specs.Tags.{labelMeaning, bytesTold, bytesMeant, labelSays, LabelGives, after, slotSays, SlotGives}
 use Rattle.reader.proofs.CommandValid.{valid-inventory}
 use Rattle.reader.proofs.RequestMeant.{label-meant, inventory-meant}
-use Rattle.reader.proofs.AnswerRead.{none-read, error-read, done-read, block-read, info-read, bytes-there, found-read}
+use Rattle.reader.proofs.AnswerRead.{none-read, error-read, done-read, block-read, blocks-read, locks-read, info-read, bytes-there, found-read}
 
 -- ---- labels
 
--- what a label can answer to a task with such a success: to is the target, p the task's parameter
-data Given (to : Target) (option : Bool) (p : ℕ) (uid b : List ℕ) : row.Success → Answer → Type 0 where
+-- what a label can answer to a task with such a success: to is the target, p the task's parameters
+data Given (to : Target) (option : Bool) (p : Params) (uid b : List ℕ) : row.Success → Answer → Type 0 where
   silent : {success : row.Success} → Given to option p uid b success a.Silent
   error : {success : row.Success} (code : ℕ) → hasAnswer success ≡ true → errorCode code ≡ true → Given to option p uid b success (a.Error code)
   done : Given to option p uid b s.Done a.Done
-  block : p ≤ getD b 11 0 → Given to option p uid b s.Block (a.Block p option)
+  block : p .first ≤ getD b 11 0 → Given to option p uid b s.Block (a.Block (p .first) option)
   info : owned to uid (part 0 8 b) ≡ true → Given to option p uid b s.Info a.Info
+  blocks : p .first + p .second ≤ getD b 11 0 → Given to option p uid b s.Blocks (steps.several option (p .first) (p .second))
+  locks : p .first + p .second ≤ getD b 11 0 → Given to option p uid b s.Locks (a.Locks (p .first) (p .second))
 
-module _ (to : Target) (option : Bool) (p : ℕ) (uid b : List ℕ) where
+module _ (to : Target) (option : Bool) (p : Params) (uid b : List ℕ) where
   abbrev Gives : Task → Stepped → Type 0
   Gives task x = Given to option p uid b (rowOf task .success) (x .answer)
 
@@ -73,19 +76,24 @@ module _ (to : Target) (option : Bool) (p : ℕ) (uid b : List ℕ) where
   owner One e = eqb-same (num (part 0 8 b)) (num uid) (num uid) (num (part 0 8 b)) sym sym ∙ e
 
   performs : (task : Task) (count lock : ℕ) → owned to uid (part 0 8 b) ≡ true
-      → Gives task (steps.perform task p option count lock (steps.ended (label.loadOf b)))
-  unfolding rowOf steps.perform steps.readBlock steps.writeBlock steps.lockBlock steps.writeAfi steps.lockAfi steps.writeDsfid steps.lockDsfid steps.ended
-      label.loadOf errorCode
+      → Gives task (steps.perform task (taken (rowOf task) p) option count lock (steps.ended (label.loadOf b)))
+  unfolding rowOf taken steps.perform steps.readBlock steps.writeBlock steps.lockBlock steps.readBlocks steps.readLocks steps.writeAfi steps.lockAfi
+      steps.writeDsfid steps.lockDsfid steps.ended label.loadOf errorCode
   performs t.Quiet count lock o = silent
-  performs t.Read count lock o = if-either (Gives t.Read) (ltb (getD b 11 0) p) _ _ (λ q. error 0x10 refl refl) (λ q. block (ltb-false (getD b 11 0) p q))
+  performs t.Read count lock o =
+      if-either (Gives t.Read) (ltb (getD b 11 0) (p .first)) _ _ (λ q. error 0x10 refl refl)
+      (λ q. block (ltb-false (getD b 11 0) (p .first) q))
   performs t.Write count lock o =
       if-either (Gives t.Write) (not (eqb count (getD b 12 0 + 1))) _ _ (λ q. error 0x02 refl refl)
       (λ q. if-either (Gives t.Write) option _ _ (λ q. error 0x03 refl refl)
-      (λ q. if-either (Gives t.Write) (ltb (getD b 11 0) p) _ _ (λ q. error 0x10 refl refl)
+      (λ q. if-either (Gives t.Write) (ltb (getD b 11 0) (p .first)) _ _ (λ q. error 0x10 refl refl)
       (λ q. if-either (Gives t.Write) (eqb lock 1) _ _ (λ q. error 0x12 refl refl) (λ q. done))))
   performs t.Lock count lock o =
-      if-either (Gives t.Lock) (ltb (getD b 11 0) p) _ _ (λ q. error 0x10 refl refl)
+      if-either (Gives t.Lock) (ltb (getD b 11 0) (p .first)) _ _ (λ q. error 0x10 refl refl)
       (λ q. if-either (Gives t.Lock) (eqb lock 1) _ _ (λ q. error 0x11 refl refl) (λ q. done))
+  performs t.ReadMany count lock o =
+      let n = p .first + p .second in
+      if-either (Gives t.ReadMany) (ltb (getD b 11 0) n) _ _ (λ q. error 0x10 refl refl) (λ q. blocks (ltb-false (getD b 11 0) n q))
   performs t.Select count lock o = done
   performs t.Ready count lock o = done
   performs t.WriteAfi count lock o = if-either (Gives t.WriteAfi) (set? (bit 0 (getD b 10 0))) _ _ (λ q. error 0x12 refl refl) (λ q. done)
@@ -93,9 +101,12 @@ module _ (to : Target) (option : Bool) (p : ℕ) (uid b : List ℕ) where
   performs t.WriteDsfid count lock o = if-either (Gives t.WriteDsfid) (set? (bit 1 (getD b 10 0))) _ _ (λ q. error 0x12 refl refl) (λ q. done)
   performs t.LockDsfid count lock o = if-either (Gives t.LockDsfid) (set? (bit 1 (getD b 10 0))) _ _ (λ q. error 0x11 refl refl) (λ q. done)
   performs t.Info count lock o = info o
+  performs t.Status count lock o =
+      let n = p .first + p .second in
+      if-either (Gives t.Status) (ltb (getD b 11 0) n) _ _ (λ q. error 0x10 refl refl) (λ q. locks (ltb-false (getD b 11 0) n q))
 
   asked : (task : Task) (count lock : ℕ)
-      → Gives task (steps.awake (steps.asked to (uidMeant to uid) task p option count lock (label.loadOf b)) (label.loadOf b))
+      → Gives task (steps.awake (steps.asked to (uidMeant to uid) task (taken (rowOf task) p) option count lock (label.loadOf b)) (label.loadOf b))
   unfolding steps.asked steps.passed
   asked task count lock =
       let l = label.loadOf b in
@@ -104,21 +115,23 @@ module _ (to : Target) (option : Bool) (p : ℕ) (uid b : List ℕ) where
       (λ w. if-either (Gives task) (eqb (rowOf task .code) 0x25 && eqb (steps.ended l .state) 3) _ _ (λ q. silent) (λ q. silent)))
 
 -- the answers that a label gives to what was meant
-said-given : (to : Target) (option : Bool) (task : Task) (p : ℕ) (uid : List ℕ) (count : ℕ) (b : List ℕ)
-    → Given to option (getD (parameter (rowOf task) p) 0 0) uid b (rowOf task .success) (label.saidLabel (labelMeant to option task p uid) count b)
+said-given : (to : Target) (option : Bool) (task : Task) (p : Params) (uid : List ℕ) (count : ℕ) (b : List ℕ)
+    → Given to option p uid b (rowOf task .success) (label.saidLabel (labelMeant to option task p uid) count b)
 unfolding label.saidLabel label.stepped steps.act steps.called labelMeant
-said-given to option task p uid count b = asked to option (getD (parameter (rowOf task) p) 0 0) uid b task count _
+said-given to option task p uid count b = asked to option p uid b task count _
 
 -- each of them is read to what it means
-answer-read : (to : Target) (option : Bool) (task : Task) (p q : ℕ) (uid : List ℕ) (n : ℕ) (b : List ℕ) → valid (c.Label to option task p) n ≡ true
-    → LabelFine b → (success : row.Success) (x : Answer) → rowOf task .success ≡ success → Given to option q uid b success x
+answer-read : (to : Target) (option : Bool) (task : Task) (p : Params) (uid : List ℕ) (n : ℕ) (b : List ℕ) → valid (c.Label to option task p) n ≡ true
+    → LabelFine b → (success : row.Success) (x : Answer) → rowOf task .success ≡ success → Given to option p uid b success x
     → readingOf (c.Label to option task p) uid n (answerFrame x b) ≡ labelMeaning x b
 unfolding answerFrame labelMeaning
-answer-read to option task p q uid n b v ok success x e silent = none-read (c.Label to option task p) uid n v
-answer-read to option task p q uid n b v ok success x e (error code h z) = error-read to option task p uid n v code b (ap hasAnswer e ∙ h) z
-answer-read to option task p q uid n b v ok success x e done = done-read to option task p uid n v b e
-answer-read to option task p q uid n b v ok success x e (block h) = block-read to option task p uid n v q b ok h e
-answer-read to option task p q uid n b v ok success x e (info o) = info-read to option task p uid n v b ok o e
+answer-read to option task p uid n b v ok success x e silent = none-read (c.Label to option task p) uid n v
+answer-read to option task p uid n b v ok success x e (error code h z) = error-read to option task p uid n v code b (ap hasAnswer e ∙ h) z
+answer-read to option task p uid n b v ok success x e done = done-read to option task p uid n v b e
+answer-read to option task p uid n b v ok success x e (block h) = block-read to option task p uid n v (p .first) b ok h e
+answer-read to option task p uid n b v ok success x e (info o) = info-read to option task p uid n v b ok o e
+answer-read to option task p uid n b v ok success x e (blocks h) = blocks-read to option task p uid n v (p .first) b ok h e
+answer-read to option task p uid n b v ok success x e (locks h) = locks-read to option task p uid n v (p .first) b ok h e
 
 -- ---- Inventory
 
@@ -167,7 +180,7 @@ takes-read : (command : Command) (uid : List ℕ) (n : ℕ) → valid command n 
 unfolding labelTakes valid
 takes-read (c.Inventory to option family sixteen bits mask) uid n v count b ok = call-found to option family sixteen bits mask uid n v b count (uid-long b ok)
 takes-read (c.Label to option task p) uid n v count b ok =
-    answer-read to option task p (getD (parameter (rowOf task) p) 0 0) uid n b v ok (rowOf task .success)
+    answer-read to option task p uid n b v ok (rowOf task .success)
     (label.saidLabel (labelMeant to option task p uid) count b) refl (said-given to option task p uid count b)
 takes-read (c.Chip to option task) uid n v count b ok = ignored-read (c.Chip to option task) uid n v count b
 takes-read (c.Other kind code) uid n v count b ok = absurd (false≢true v)
@@ -178,7 +191,7 @@ pub label-read : (command : Command) (uid : List ℕ) (n : ℕ) → valid comman
     → readingOf command uid n (answerFrame (label.saidLabel r count b) b) ≡ labelMeaning (label.saidLabel r count b) b
 label-read command uid n v r e count b ok = rw e (takes-read command uid n v count b ok)
 
--- .. and where the reading tells the place of bytes, there stand the block's
+-- .. and where the reading tells the place of bytes, there stand the blocks' and their locks'
 pub label-bytes : (command : Command) (uid : List ℕ) (n : ℕ) → valid command n ≡ true → (r : Request) → r ≡ labelTakes command uid
     → (count : ℕ) (b : List ℕ) → LabelFine b
     → bytesTold (readingOf command uid n (answerFrame (label.saidLabel r count b) b) .meaning) (answerFrame (label.saidLabel r count b) b)
@@ -192,8 +205,8 @@ fine-body : (b : List ℕ) → Bytes b → label.labelRules b ≡ fine → Label
 fine-body b bs e = rules-fine b bs (ap (λ (x : Verdict). x .number) e)
 
 -- what a well-formed label answers to a label command is read to what it means ..
-pub label-gives : (to : Target) (option : Bool) (task : Task) (p : ℕ) (uid d g : List ℕ) → valid (c.Label to option task p) (length d) ≡ true → length uid ≡ 8
-    → (y : LabelGives (encode (c.Label to option task p) uid d) g)
+pub label-gives : (to : Target) (option : Bool) (task : Task) (p : Params) (uid d g : List ℕ) → valid (c.Label to option task p) (length d) ≡ true
+    → length uid ≡ 8 → (y : LabelGives (encode (c.Label to option task p) uid d) g)
     → readingOf (c.Label to option task p) uid (length d) g ≡ labelMeaning (labelSays (encode (c.Label to option task p) uid d) (y .body)) (y .body)
 unfolding labelTakes
 label-gives to option task p uid d g v h y =
@@ -203,8 +216,8 @@ label-gives to option task p uid d g v h y =
     ∙ label-read (c.Label to option task p) uid (length d) v (decode f) (label-meant to option task p uid d v h) (length (dataOf f)) b
     (fine-body b (y .bytes) (y .wellFormed))
 
--- .. and the bytes of the block that it gives stand where the reading says
-pub label-gives-bytes : (to : Target) (option : Bool) (task : Task) (p : ℕ) (uid d g : List ℕ) → valid (c.Label to option task p) (length d) ≡ true
+-- .. and the bytes of the blocks that it gives stand where the reading says
+pub label-gives-bytes : (to : Target) (option : Bool) (task : Task) (p : Params) (uid d g : List ℕ) → valid (c.Label to option task p) (length d) ≡ true
     → length uid ≡ 8 → (y : LabelGives (encode (c.Label to option task p) uid d) g)
     → bytesTold (readingOf (c.Label to option task p) uid (length d) g .meaning) g
     ≡ bytesMeant (labelSays (encode (c.Label to option task p) uid d) (y .body)) (y .body)

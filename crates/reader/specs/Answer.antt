@@ -1,13 +1,14 @@
--- Document 01, "Reader's side": what a frame means to the command that was sent. Assumes nothing.
+-- Document 01, "Reader's side", and document 02, P2: what a frame means to the command that was sent. Assumes nothing.
 use mathlib.Core.Bool.{Bool, true, false, not, _&&_, _||_}
 use mathlib.Core.List.{List}
-use Prim.Native.Nat.{ℕ, _-_, _%_}
+use Prim.Native.Nat.{ℕ, _+_, _-_, _*_, _/_, _%_, _≤_}
 use lib.Dec.{eqb, ltb, leb}
 use lib.ListN.{length, getD, replicate}
-use Rattle.frame.specs.Choose.{if_then_else_}
+use Rattle.frame.specs.Choose.{if_then_else_, allOf}
 use Rattle.frame.specs.Number.{num, part}
 use Rattle.frame.specs.CheckSum.{right, content}
 use Rattle.frame.specs.Ending.{endsIn}
+use Rattle.request.specs.declared.label.Params.{Params}
 use Rattle.request.specs.declared.label.Target.{Target}
 use Rattle.request.specs.declared.label.Target.the-variants.{Everyone, Selected, One}
 use Rattle.request.specs.Table.{rowOf, hasAnswer}
@@ -35,6 +36,9 @@ numberOf (m.Info dsfid afi blocks size ic) = 0
 numberOf (m.Id id) = 0
 numberOf (m.Word word) = 0
 numberOf m.Uid = 0
+numberOf (m.Blocks place long count) = 0
+numberOf (m.LocksAndBlocks place long count) = 0
+numberOf (m.Locks place count) = 0
 
 -- a success: neither a refusal nor an error
 unfoldable pub success : Meaning → Bool
@@ -48,6 +52,9 @@ success (m.Info dsfid afi blocks size ic) = true
 success (m.Id id) = true
 success (m.Word word) = true
 success m.Uid = true
+success (m.Blocks place long count) = true
+success (m.LocksAndBlocks place long count) = true
+success (m.Locks place count) = true
 
 -- every other number in a refusal is 0; a meaning with no UID has zeros beside it
 abbrev pub said : Meaning → Reading
@@ -93,18 +100,37 @@ infoOf to uid c =
     fits (eqb (length c) 15 && (eqb (getD c 0 0) 0 && (eqb (getD c 1 0) 0x0F && (leb (getD c 13 0) 31 && owned to uid (part 2 8 c)))))
     (saidOf (m.Info (getD c 10 0) (getD c 11 0) (getD c 12 0) (getD c 13 0) (getD c 14 0)) (part 2 8 c))
 
--- what a success of a task is
-unfoldable pub successOf : Target → Bool → Success → List ℕ → List ℕ → Reading
-successOf to option s.Never uid c = said (m.Refused 9)
-successOf to option s.Done uid c = doneOf c
-successOf to option s.Block uid c = blockOf option c
-successOf to option s.Info uid c = infoOf to uid c
+-- document 02, P2: how many bytes each of count pieces of one length has, one behind the other behind 00; 0 where c is no such pieces
+unfoldable pub pieceOf : ℕ → List ℕ → ℕ
+pieceOf count c =
+    let each = (length c - 1) / count in
+    if eqb (getD c 0 0) 0 && eqb (length c) (1 + count * each) then each else 0
+
+-- count blocks of 1 to 32 bytes, each with its lock byte before it if Option
+unfoldable pub blocksOf : Bool → ℕ → List ℕ → Reading
+blocksOf true count c =
+    let each = pieceOf count c in
+    fits (leb 2 each && (leb each 33 && allOf count (λ i. leb (getD c (1 + i * each) 0) 1))) (said (m.LocksAndBlocks 1 (each - 1) count))
+blocksOf false count c = let each = pieceOf count c in fits (leb 1 each && leb each 32) (said (m.Blocks 1 each count))
+
+-- count lock bytes
+unfoldable pub locksOf : ℕ → List ℕ → Reading
+locksOf count c = fits (eqb (pieceOf count c) 1 && allOf count (λ i. leb (getD c (1 + i) 0) 1)) (said (m.Locks 1 count))
+
+-- what a success of a task is; more is the count less 1 that was asked
+unfoldable pub successOf : Target → Bool → Success → ℕ → List ℕ → List ℕ → Reading
+successOf to option s.Never more uid c = said (m.Refused 9)
+successOf to option s.Done more uid c = doneOf c
+successOf to option s.Block more uid c = blockOf option c
+successOf to option s.Info more uid c = infoOf to uid c
+successOf to option s.Blocks more uid c = blocksOf option (more + 1) c
+successOf to option s.Locks more uid c = locksOf (more + 1) c
 
 -- an error frame fits any label command that has an answer, save Inventory
-unfoldable pub labelReading : Target → Bool → Task → List ℕ → List ℕ → Reading
-labelReading to option task uid c =
+unfoldable pub labelReading : Target → Bool → Task → Params → List ℕ → List ℕ → Reading
+labelReading to option task p uid c =
     if hasAnswer (rowOf task .success) && isError c then said (m.Error (getD c 1 0))
-    else successOf to option (rowOf task .success) uid c
+    else successOf to option (rowOf task .success) (p .second) uid c
 
 -- 00, DSFID, UID, which ends in the mask sent
 unfoldable pub foundOf : ℕ → ℕ → List ℕ → Reading
@@ -125,7 +151,7 @@ chipReading (p.Write a) c = said (m.Refused 9)
 
 unfoldable pub shapeOf : Command → List ℕ → List ℕ → Reading
 shapeOf (Inventory to option family sixteen bits mask) uid c = foundOf bits mask c
-shapeOf (Label to option task p) uid c = labelReading to option task uid c
+shapeOf (Label to option task p) uid c = labelReading to option task p uid c
 shapeOf (Chip to option task) uid c = chipReading task c
 shapeOf (Other kind code) uid c = said (m.Refused 9)
 
@@ -143,3 +169,19 @@ readingOf command uid n f =
     else if ltb (length f) 3 then said (m.Refused 8)
     else if not (right f) then said (m.Refused 8)
     else shapeOf command uid (content f)
+
+-- the bytes whose place is told lie in a frame of k bytes
+unfoldable pub Inside : Meaning → ℕ → Type 0
+Inside (m.Refused n) k = Unit
+Inside (m.Error code) k = Unit
+Inside m.Done k = Unit
+Inside (m.Found dsfid) k = Unit
+Inside (m.Block place long) k = place + long ≤ k
+Inside (m.LockAndBlock lock place long) k = place + long ≤ k
+Inside (m.Info dsfid afi blocks size ic) k = Unit
+Inside (m.Id id) k = Unit
+Inside (m.Word word) k = Unit
+Inside m.Uid k = Unit
+Inside (m.Blocks place long count) k = place + count * long ≤ k
+Inside (m.LocksAndBlocks place long count) k = place + count * (1 + long) ≤ k
+Inside (m.Locks place count) k = place + count ≤ k

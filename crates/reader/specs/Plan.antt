@@ -12,6 +12,7 @@ use Rattle.request.specs.declared.label.Family.{Family}
 use Rattle.request.specs.declared.label.Family.the-variants.{Any, Only}
 use Rattle.request.specs.Table.{rowOf}
 use Rattle.request.specs.declared.table.Row.{Row}
+use Rattle.request.specs.declared.label.Params.{Params}
 use Rattle.reader.specs.declared.command.ChipTask.{ChipTask}
 use Rattle.reader.specs.declared.command.ChipTask.the-variants as p
 use Rattle.reader.specs.declared.command.Command.{Command}
@@ -29,13 +30,13 @@ uidCount Everyone = 0
 uidCount Selected = 0
 uidCount One = 8
 
-abbrev pub labelPlan : Target → Bool → Row → ℕ → ℕ → Plan
+abbrev pub labelPlan : Target → Bool → Row → Params → ℕ → Plan
 labelPlan to option row p n =
     record {
       head = flags to option + 256 * row .code;
       heads = 2;
       uids = uidCount to;
-      par = p;
+      par = p .first + 256 * p .second;
       pars = row .len - 4;
       mask = 0;
       masks = 0;
@@ -97,7 +98,7 @@ RangedChip (p.Write a) = a < 256
 
 unfoldable pub Ranged : Command → Type 0
 Ranged (Inventory to option family sixteen bits mask) = RangedFamily family
-Ranged (Label to option task p) = p < 256
+Ranged (Label to option task p) = (p .first < 256) × (p .second < 256)
 Ranged (Chip to option task) = RangedChip task
 Ranged (Other kind code) = Unit
 

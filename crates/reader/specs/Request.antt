@@ -1,4 +1,4 @@
--- Document 01, "Reader's side": the bytes of a request, and what the writer leaves. Assumes nothing.
+-- Document 01, "Reader's side", and document 02, P2: the bytes of a request, and what the writer leaves. Assumes nothing.
 use mathlib.Core.Path.{_≡_}
 use mathlib.Core.Bool.{Bool}
 use mathlib.Core.List.{List, [], _∷_, _++_}
@@ -17,7 +17,8 @@ use Rattle.request.specs.Table.{rowOf}
 use Rattle.request.specs.declared.table.Task.{Task}
 use Rattle.request.specs.declared.table.Row.{Row}
 use Rattle.request.specs.declared.label.Call.the-variants as k
-use Rattle.request.specs.Label.{bare}
+use Rattle.request.specs.Label.{bare, both}
+use Rattle.request.specs.declared.label.Params.{Params}
 use Rattle.request.specs.declared.label.Request as asked
 use Rattle.request.specs.declared.chip.Order.{Order}
 use Rattle.request.specs.declared.chip.Order.the-variants as o
@@ -41,12 +42,12 @@ uidPart Everyone uid = []
 uidPart Selected uid = []
 uidPart One uid = uid
 
--- the parameter that a task has beside its flags and code; then a block's data
-abbrev pub parameter : Row → ℕ → List ℕ
-parameter row p = take (row .len - 4) (p ∷ [])
+-- the parameters that a task has beside its flags and code; then a block's data
+abbrev pub parameters : Row → Params → List ℕ
+parameters row p = take (row .len - 4) (p .first ∷ p .second ∷ [])
 
-abbrev pub params : Row → ℕ → List ℕ → List ℕ
-params row p d = parameter row p ++ (if row .block then d else [])
+abbrev pub params : Row → Params → List ℕ → List ℕ
+params row p d = parameters row p ++ (if row .block then d else [])
 
 abbrev pub chipBytes : ChipTask → List ℕ → List ℕ
 chipBytes p.Initiate d = 0x06 ∷ 0x00 ∷ []
@@ -113,9 +114,12 @@ uidMeant Everyone uid = replicate 8 0
 uidMeant Selected uid = replicate 8 0
 uidMeant One uid = uid
 
--- a task without a parameter is taken with 0
-unfoldable pub labelMeant : Target → Bool → Task → ℕ → List ℕ → asked.Request
-labelMeant to option task p uid = record { uid = uidMeant to uid; call = k.Do to task (getD (parameter (rowOf task) p) 0 0) option }
+-- a parameter that a task has not is taken as 0
+unfoldable pub taken : Row → Params → Params
+taken row p = both (getD (parameters row p) 0 0) (getD (parameters row p) 1 0)
+
+unfoldable pub labelMeant : Target → Bool → Task → Params → List ℕ → asked.Request
+labelMeant to option task p uid = record { uid = uidMeant to uid; call = k.Do to task (taken (rowOf task) p) option }
 
 unfoldable pub chipMeant : ChipTask → List ℕ → Order
 chipMeant p.Initiate d = o.Initiate

@@ -4,7 +4,7 @@ use mathlib.Core.Path.{_≡_}
 use mathlib.Core.Logic.{_⊎_, inl, inr}
 use mathlib.Core.Bool.{true, false}
 use mathlib.Core.List.{List, []}
-use Prim.Native.Nat.{ℕ, zero, suc, _<_}
+use Prim.Native.Nat.{ℕ, zero, suc, _+_, _*_, _<_}
 use lib.ListN.{length, getD}
 use Rattle.frame.specs.Number.{part, Bytes}
 use Rattle.frame.specs.Judge.{fine}
@@ -37,6 +37,9 @@ labelMeaning a.Done b = said m.Done
 labelMeaning a.Found b = saidOf (m.Found (getD b 8 0)) (part 0 8 b)
 labelMeaning (a.Block n true) b = said (m.LockAndBlock (lockOn n b) 2 (label.sizeOf b))
 labelMeaning (a.Block n false) b = said (m.Block 1 (label.sizeOf b))
+labelMeaning (a.LocksAndBlocks n more) b = said (m.LocksAndBlocks 1 (label.sizeOf b) (more + 1))
+labelMeaning (a.Blocks n more) b = said (m.Blocks 1 (label.sizeOf b) (more + 1))
+labelMeaning (a.Locks n more) b = said (m.Locks 1 (more + 1))
 labelMeaning a.Info b = saidOf (m.Info (getD b 8 0) (getD b 9 0) (getD b 11 0) (getD b 12 0) (getD b 13 0)) (part 0 8 b)
 
 unfoldable pub chipMeaning : chipStep.Answer → List ℕ → Reading
@@ -57,8 +60,11 @@ bytesTold (m.Info dsfid afi blocks size ic) f = []
 bytesTold (m.Id id) f = []
 bytesTold (m.Word word) f = []
 bytesTold m.Uid f = []
+bytesTold (m.Blocks place long count) f = part place (count * long) f
+bytesTold (m.LocksAndBlocks place long count) f = part place (count * (1 + long)) f
+bytesTold (m.Locks place count) f = part place count f
 
--- .. are the block's
+-- .. are those of the blocks, or their locks
 unfoldable pub bytesMeant : labelStep.Answer → List ℕ → List ℕ
 bytesMeant a.Silent b = []
 bytesMeant (a.Error code) b = []
@@ -66,6 +72,9 @@ bytesMeant a.Done b = []
 bytesMeant a.Found b = []
 bytesMeant (a.Block n lock) b = part (label.blockAt b n) (label.sizeOf b) b
 bytesMeant a.Info b = []
+bytesMeant (a.Blocks n more) b = labelAnswer.blocksBytes n more false b
+bytesMeant (a.LocksAndBlocks n more) b = labelAnswer.blocksBytes n more true b
+bytesMeant (a.Locks n more) b = labelAnswer.locksBytes n more b
 
 -- ---- who gives what
 
@@ -134,7 +143,7 @@ givenMeaning (Label to option task p) f g y = labelMeaning (labelSays f (y .body
 givenMeaning (Chip to option task) f g y = chipMeaning (chipSays f (y .draw) (y .body)) (y .body)
 givenMeaning (Other kind code) f g y = absurd y
 
--- .. and the bytes of the block that it gives: only the answer to a label command holds a block whose place is told
+-- .. and the bytes of the blocks that it gives: only the answer to a label command holds blocks whose place is told
 unfoldable pub givenBytes : (command : Command) (f g : List ℕ) → Gives command f g → List ℕ
 unfolding Gives
 givenBytes (Inventory to option family sixteen bits mask) f g y = []

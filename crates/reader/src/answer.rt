@@ -8,6 +8,7 @@ use frame::number::number_of;
 use frame::uid::ends_in;
 use frame::uid::same_uid;
 use frame::uid::uid_at;
+use request::label::Params;
 use request::label::Target;
 use request::table::Success;
 use request::table::Task;
@@ -16,13 +17,15 @@ use request::table::row_of;
 ghost use mathlib.Core.Path.{_≡_};
 ghost use mathlib.Core.Bool.{true, false, _&&_};
 ghost use lib.Dec.{eqb, leb};
-ghost use lib.ListN.{length};
+ghost use Prim.Native.Nat.{_+_, _*_, _≤_};
+ghost use lib.ListN.{length, getD};
+ghost use Rattle.frame.specs.Choose.{allOf};
 ghost use Rattle.frame.specs.CheckSum.{right};
 ghost use Rattle.request.specs.Table.{hasAnswer};
 ghost use Rattle.reader.specs.declared.command.ChipTask.the-variants.{Initiate, Marker, Select, Read, Uid};
 ghost use Rattle.reader.specs.declared.answer.Meaning.the-variants.{Refused};
-ghost use Rattle.reader.specs.Answer.{said, saidOf, errorCode, isError, doneOf, blockOf, owned, infoOf, successOf, labelReading};
-ghost use Rattle.reader.specs.Answer.{foundOf, chipReading, shapeOf, readingOf};
+ghost use Rattle.reader.specs.Answer.{said, saidOf, errorCode, isError, doneOf, blockOf, pieceOf, blocksOf, locksOf, owned, infoOf};
+ghost use Rattle.reader.specs.Answer.{successOf, labelReading, foundOf, chipReading, shapeOf, readingOf};
 
 // What an answer means. UIDs stand beside the meaning; of a block the place of its bytes in the frame and how many there are.
 pub enum Meaning {
@@ -44,6 +47,12 @@ pub enum Meaning {
     Word(u32),
     // A chip's UID.
     Uid,
+    // Blocks one behind the other: the place of the first, the length of each, how many.
+    Blocks(usize, usize, usize),
+    // With its lock byte before each; the place is that of the first lock byte.
+    LocksAndBlocks(usize, usize, usize),
+    // Lock bytes: the place of the first, and how many.
+    Locks(usize, usize),
 }
 
 pub struct Reading {
@@ -159,6 +168,98 @@ fn block(option: bool, c: &[u8]) -> Reading
     plain_block(c)
 }
 
+// How many bytes each of count pieces of one length has, one behind the other behind 00; 0 where c is no such pieces.
+fn piece(count: usize, c: &[u8]) -> usize
+    requires { ⌜ 1 ≤ count ⌝ }
+    ensures { λ r. ⌜ r ≡ pieceOf count (now (c .entry)) ⌝ }
+{
+    if c.len() < 1 {
+        return 0;
+    }
+    if c[0] != 0 {
+        return 0;
+    }
+    let each = (c.len() - 1) / count;
+    if c.len() != 1 + count * each {
+        return 0;
+    }
+    each
+}
+
+// Whether each of count pieces, of so many bytes, begins with a lock byte.
+fn are_locks(each: usize, count: usize, c: &[u8]) -> bool
+    requires { ⌜ (1 ≤ each) × (1 + count * each ≤ length (now c)) ⌝ }
+    ensures { λ r. ⌜ r ≡ allOf count (λ i. leb (getD (now (c .entry)) (1 + i * each) 0) 1) ⌝ }
+{
+    let mut at = 1;
+    let mut i = 0;
+    while i < count {
+        if 1 < c[at] {
+            return false;
+        }
+        at += each;
+        i += 1;
+    }
+    true
+}
+
+// Blocks of 1 to 32 bytes, a lock byte before each.
+fn locked_blocks(count: usize, c: &[u8]) -> Reading
+    requires { ⌜ 1 ≤ count ⌝ }
+    ensures { λ r. ⌜ r ≡ blocksOf true count (now (c .entry)) ⌝ }
+{
+    let each = piece(count, c);
+    if each < 2 {
+        return refused(9);
+    }
+    if 33 < each {
+        return refused(9);
+    }
+    if !are_locks(each, count, c) {
+        return refused(9);
+    }
+    plain(Meaning::LocksAndBlocks(1, each - 1, count))
+}
+
+// Blocks of 1 to 32 bytes.
+fn plain_blocks(count: usize, c: &[u8]) -> Reading
+    requires { ⌜ 1 ≤ count ⌝ }
+    ensures { λ r. ⌜ r ≡ blocksOf false count (now (c .entry)) ⌝ }
+{
+    let each = piece(count, c);
+    if each < 1 {
+        return refused(9);
+    }
+    if 32 < each {
+        return refused(9);
+    }
+    plain(Meaning::Blocks(1, each, count))
+}
+
+fn blocks(option: bool, count: usize, c: &[u8]) -> Reading
+    requires { ⌜ 1 ≤ count ⌝ }
+    ensures { λ r. ⌜ r ≡ blocksOf option count (now (c .entry)) ⌝ }
+{
+    if option {
+        return locked_blocks(count, c);
+    }
+    plain_blocks(count, c)
+}
+
+// Lock bytes alone.
+fn locks(count: usize, c: &[u8]) -> Reading
+    requires { ⌜ 1 ≤ count ⌝ }
+    ensures { λ r. ⌜ r ≡ locksOf count (now (c .entry)) ⌝ }
+{
+    if piece(count, c) != 1 {
+        return refused(9);
+    }
+    if !are_locks(1, count, c) {
+        return refused(9);
+    }
+    plain(Meaning::Locks(1, count))
+}
+
 // Whether a UID read is the target's, where the target is one UID.
 fn owns(to: Target, uid: [u8; 8], u: [u8; 8]) -> bool
     ensures { λ r. ⌜ r ≡ owned to uid u ⌝ }
@@ -199,15 +300,25 @@ fn info(to: Target, uid: [u8; 8], c: &[u8]) -> Reading
     with_uid(Meaning::Info(c[10], c[11], c[12], c[13], c[14]), u)
 }
 
-// What c, which is no error, means where a success is of this kind.
-fn success_in(to: Target, option: bool, success: Success, uid: [u8; 8], c: &[u8]) -> Reading
-    ensures { λ r. ⌜ r ≡ successOf to option success uid (now (c .entry)) ⌝ }
+// What c, which is no error, means where a success is of this kind; more is the count less 1 that was asked.
+fn success_in(
+    to: Target,
+    option: bool,
+    success: Success,
+    more: u8,
+    uid: [u8; 8],
+    c: &[u8],
+) -> Reading
+    ensures { λ r. ⌜ r ≡ successOf to option success more uid (now (c .entry)) ⌝ }
 {
+    let count = more as usize + 1;
     match success {
         Success::Never => refused(9),
         Success::Done => done(c),
         Success::Block => block(option, c),
         Success::Info => info(to, uid, c),
+        Success::Blocks => blocks(option, count, c),
+        Success::Locks => locks(count, c),
     }
 }
 
@@ -221,15 +332,15 @@ fn errs(success: Success, c: &[u8]) -> bool
     false
 }
 
-fn label_reading(to: Target, option: bool, task: Task, uid: [u8; 8], c: &[u8]) -> Reading
-    ensures { λ r. ⌜ r ≡ labelReading to option task uid (now (c .entry)) ⌝ }
+fn label_reading(to: Target, option: bool, task: Task, p: Params, uid: [u8; 8], c: &[u8]) -> Reading
+    ensures { λ r. ⌜ r ≡ labelReading to option task p uid (now (c .entry)) ⌝ }
 {
     let row = row_of(task);
     let success = row.success;
     if errs(success, c) {
         return plain(Meaning::Error(byte_at(c, 1)));
     }
-    success_in(to, option, success, uid, c)
+    success_in(to, option, success, p.second, uid, c)
 }
 
 // 00, DSFID, a UID that ends in the mask sent. Never an error.
@@ -327,7 +438,7 @@ fn shape(command: Command, uid: [u8; 8], c: &[u8]) -> Reading
 {
     match command {
         Command::Inventory(_, _, _, _, bits, mask) => found(bits, mask, c),
-        Command::Label(to, option, task, _) => label_reading(to, option, task, uid, c),
+        Command::Label(to, option, task, p) => label_reading(to, option, task, p, uid, c),
         Command::Chip(_, _, task) => chip_reading(task, c),
         Command::Other(_, _) => refused(9),
     }

@@ -2,6 +2,7 @@
 use frame::uid::low_bits;
 use request::chip::is_listed;
 use request::label::Family;
+use request::label::Params;
 use request::label::Target;
 use request::label::most_bits;
 use request::label::target_fits;
@@ -15,7 +16,7 @@ ghost use lib.Dec.{eqb, leb};
 ghost use Rattle.request.specs.Table.{optionFits};
 ghost use Rattle.request.specs.Label.{targetFits};
 ghost use Rattle.request.specs.Chip.{listed};
-ghost use Rattle.reader.specs.Command.{everyone, dataFits, labelFits, chipFits, inventoryFits, valid};
+ghost use Rattle.reader.specs.Command.{everyone, dataFits, rangeFits, labelFits, chipFits, inventoryFits, valid};
 
 // What a chip is asked. A write's four bytes stand beside the command.
 pub enum ChipTask {
@@ -34,8 +35,8 @@ pub enum ChipTask {
 pub enum Command {
     // Family, whether sixteen slots, mask length, mask.
     Inventory(Target, bool, Family, bool, u8, u64),
-    // A task and its parameter, where it has one. A write's bytes stand beside the command.
-    Label(Target, bool, Task, u8),
+    // A task and its parameters, as far as it has them. A write's bytes stand beside the command.
+    Label(Target, bool, Task, Params),
     Chip(Target, bool, ChipTask),
     // A kind or code that is none of these.
     Other(u8, u8),
@@ -71,8 +72,18 @@ fn data_fits(row: Row, n: usize) -> bool
     true
 }
 
-fn row_fits(row: Row, to: Target, option: bool, n: usize) -> bool
-    ensures { λ r. ⌜ r ≡ optionFits row option && (targetFits row to && dataFits row n) ⌝ }
+// Whether the blocks that two parameters name have numbers: a first one, and so many more.
+fn range_fits(row: Row, p: Params) -> bool
+    ensures { λ r. ⌜ r ≡ rangeFits row p ⌝ }
+{
+    if row.len < 6 {
+        return true;
+    }
+    p.first as u32 + p.second as u32 <= 255
+}
+
+fn row_fits(row: Row, to: Target, option: bool, p: Params, n: usize) -> bool
+    ensures { λ r. ⌜ r ≡ optionFits row option && (targetFits row to && (dataFits row n && rangeFits row p)) ⌝ }
 {
     if !option_fits(row, option) {
         return false;
@@ -80,13 +91,16 @@ fn row_fits(row: Row, to: Target, option: bool, n: usize) -> bool
     if !target_fits(row, to) {
         return false;
     }
-    data_fits(row, n)
+    if !data_fits(row, n) {
+        return false;
+    }
+    range_fits(row, p)
 }
 
-fn label_fits(to: Target, option: bool, task: Task, n: usize) -> bool
-    ensures { λ r. ⌜ r ≡ labelFits to option task n ⌝ }
+fn label_fits(to: Target, option: bool, task: Task, p: Params, n: usize) -> bool
+    ensures { λ r. ⌜ r ≡ labelFits to option task p n ⌝ }
 {
-    row_fits(row_of(task), to, option, n)
+    row_fits(row_of(task), to, option, p, n)
 }
 
 // Whether a slot marker has this slot: 1 to 15.
@@ -169,7 +183,7 @@ pub fn is_valid(c: Command, n: usize) -> bool
         Command::Inventory(to, option, _, sixteen, bits, mask) => {
             inventory_fits(to, option, sixteen, bits, mask)
         }
-        Command::Label(to, option, task, _) => label_fits(to, option, task, n),
+        Command::Label(to, option, task, p) => label_fits(to, option, task, p, n),
         Command::Chip(to, option, task) => chip_fits(to, option, task, n),
         Command::Other(_, _) => false,
     }

@@ -7,6 +7,7 @@ use frame::number::wide;
 use frame::put::put_bytes;
 use frame::put::put_number;
 use request::label::Family;
+use request::label::Params;
 use request::label::Target;
 use request::table::Row;
 use request::table::row_of;
@@ -100,16 +101,16 @@ fn data_count(row: Row, n: usize) -> usize
     0
 }
 
-// Flags, code and the UID where one is named; then the parameter p where the row has one, and n of data.
-fn label_plan(to: Target, option: bool, row: Row, p: u8, n: usize) -> Plan
+// Flags, code and the UID where one is named; then the parameters that the row has, and n of data.
+fn label_plan(to: Target, option: bool, row: Row, p: Params, n: usize) -> Plan
     requires { ⌜ 4 ≤ row .len ⌝ }
-    ensures { λ r. ⌜ (r ≡ labelPlan to option row p n) × (p < 256) ⌝ }
+    ensures { λ r. ⌜ (r ≡ labelPlan to option row p n) × ((p .first < 256) × (p .second < 256)) ⌝ }
 {
     Plan {
         head: flags_of(to, option) + 256 * wide(row.code),
         heads: 2,
         uids: uid_count(to),
-        par: wide(p),
+        par: p.first as u64 + 256 * (p.second as u64),
         pars: row.len as usize - 4,
         mask: 0,
         masks: 0,

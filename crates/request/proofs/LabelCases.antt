@@ -19,7 +19,7 @@ use Rattle.request.specs.declared.label.Call.the-variants.{Nobody, Inven
 use Rattle.request.specs.declared.table.Row.{Row}
 use Rattle.request.specs.declared.table.Found.the-variants.{Known, Missing}
 use Rattle.request.specs.Table.{table, lookup, optionFits}
-use Rattle.request.specs.Label.{flag, bare, nobody, most, masked, targetFits, faulty, byRow, checked, call, addressing, decode, dataOf}
+use Rattle.request.specs.Label.{flag, bare, nobody, most, masked, targetFits, faulty, both, byRow, checked, call, addressing, decode, dataOf}
 
 -- ---- masks
 module _ (family : Family) (sixteen : Bool) (at : ℕ) (f : List ℕ) {n : ℕ} (e : n ≡ most sixteen) where
@@ -43,7 +43,7 @@ module _ (to : Target) (option : Bool) (ps : List ℕ) (row : Row) {t : Bool} (e
   row-nobody h = rw (← e, h)
 
   module _ (fit : t ≡ true) {p : ℕ} (q : p ≡ getD ps 0 0) where
-    pub row-block : row .block ≡ true → byRow to option ps row ≡ Do to (row .task) p option
+    pub row-block : row .block ≡ true → byRow to option ps row ≡ Do to (row .task) (both p 0) option
     unfolding byRow
     row-block h = rw (← e, fit, h, q)
 
@@ -53,9 +53,9 @@ module _ (to : Target) (option : Bool) (ps : List ℕ) (row : Row) {t : Bool} (e
       row-length h = rw (← e, fit, z, ne-eqb _ _ h)
 
       module _ (l : length ps + 4 ≡ row .len) {o : Bool} (f : o ≡ optionFits row option) where
-        pub row-fits : o ≡ true → byRow to option ps row ≡ Do to (row .task) p option
+        pub row-fits : o ≡ true → {r : ℕ} → r ≡ getD ps 1 0 → byRow to option ps row ≡ Do to (row .task) (both p r) option
         unfolding byRow
-        row-fits h = rw (← e, fit, z, eq-eqb _ _ l, ← f, h, q)
+        row-fits h w = rw (← e, fit, z, eq-eqb _ _ l, ← f, h, q, w)
 
         pub row-option : o ≡ false → byRow to option ps row ≡ faulty to row 3
         unfolding byRow

@@ -24,7 +24,7 @@ use Rattle.request.specs.declared.label.Family.the-variants.{Any, Only}
 use Rattle.request.specs.declared.label.Call.the-variants.{Inventory, Do}
 use Rattle.request.specs.declared.table.Task.the-variants.{Select}
 use Rattle.request.specs.Table.{rowOf, table, lookup}
-use Rattle.request.specs.Label.{bare, most, masked, inventory, byRow, checked, call, params, addressed, unaddressed, addressing, decode, dataOf}
+use Rattle.request.specs.Label.{bare, most, masked, inventory, both, byRow, checked, call, params, addressed, unaddressed, addressing, decode, dataOf}
 
 -- ---- a frame's bytes
 
@@ -106,7 +106,7 @@ module _ (c : ℕ) (ps : List ℕ) where
 
 -- Select: Address alone, the low two bits any
 pub select-back : (flags : ℕ) (u : List ℕ) → flags / 4 ≡ 8 → length u ≡ 8
-    → decode (framed (flags ∷ 0x25 ∷ u)) ≡ record { uid = u; call = Do One Select 0 false }
+    → decode (framed (flags ∷ 0x25 ∷ u)) ≡ record { uid = u; call = Do One Select (both 0 0) false }
 unfolding addressing call checked table rowOf lookup byRow
 select-back flags u h l =
     let at3 : flags / 2 ^ 3 ≡ 4 = omega arith in

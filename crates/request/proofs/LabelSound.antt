@@ -5,7 +5,7 @@ use mathlib.Core.Path.{_≡_}
 use mathlib.Core.Bool.{Bool, true, not, _&&_, _||_}
 use mathlib.Core.List.{List}
 use Prim.Native.Nat.{ℕ, _+_, _-_, _^_, _≤_, _<_}
-use lib.Dec.{eqb, ltb}
+use lib.Dec.{eqb, ltb, lit<}
 use lib.ListN.{length, getD}
 use borrow.Author.Tests.{ltb-false}
 use Rattle.frame.specs.Choose.{if_then_else_, bit, set?}
@@ -27,10 +27,10 @@ use Rattle.request.specs.declared.label.Call.{Call}
 use Rattle.request.specs.declared.label.Call.the-variants.{Ignored, Off, On, EndOfFrame, Nobody, Inventory, Fault, Do}
 use Rattle.request.specs.declared.label.Request.{Request}
 use Rattle.request.specs.Table.{table, lookup, hasAnswer, optionFits}
-use Rattle.request.specs.Label.{flag, bare, nobody, most, masked, inventory, targetFits, faulty, byRow, checked, call, params, addressed}
-use Rattle.request.specs.Label.{unaddressed, addressing, decode, heard, dataOf}
+use Rattle.request.specs.Label.{flag, bare, nobody, most, masked, inventory, targetFits, faulty, both, byRow, checked, call, params}
+use Rattle.request.specs.Label.{addressed, unaddressed, addressing, decode, heard, dataOf}
 
--- a mask is no longer than allowed and has no bits above its length; a parameter is a byte
+-- a mask is no longer than allowed and has no bits above its length; parameters are bytes
 unfoldable pub Sound : Call → Type 0
 Sound Ignored = Unit
 Sound Off = Unit
@@ -39,7 +39,7 @@ Sound EndOfFrame = Unit
 Sound Nobody = Unit
 Sound (Inventory family sixteen bits mask) = (bits ≤ most sixteen) × (mask < 2 ^ bits)
 Sound (Fault to code) = Unit
-Sound (Do to task p option) = p < 256
+Sound (Do to task p option) = (p .first < 256) × (p .second < 256)
 
 -- ---- the ends of a decoded frame
 module _ (P : Call → Type 0) (f : List ℕ) (none : P Nobody)
@@ -81,7 +81,8 @@ module _ (P : Call → Type 0) (f : List ℕ) (none : P Nobody)
 
   -- any frame
   module _ (fault : (to : Target) (code : ℕ) → P (Fault to code))
-      (does : (to : Target) (task : Task) (at : ℕ) (option : Bool) → P (Do to task (getD (params at f) 0 0) option)) where
+      (writes : (to : Target) (task : Task) (at : ℕ) (option : Bool) → P (Do to task (both (getD (params at f) 0 0) 0) option))
+      (does : (to : Target) (task : Task) (at : ℕ) (option : Bool) → P (Do to task (both (getD (params at f) 0 0) (getD (params at f) 1 0)) option)) where
     faulty-ends : (to : Target) (row : Row) (code : ℕ) → P (faulty to row code)
     faulty-ends to row code = if-both P (hasAnswer (row .success)) (fault to code) none
 
@@ -89,7 +90,7 @@ module _ (P : Call → Type 0) (f : List ℕ) (none : P Nobody)
     unfolding byRow
     row-ends to option at row =
         if-both P (not (targetFits row to)) none
-        (if-both P (row .block) (does to (row .task) at option)
+        (if-both P (row .block) (writes to (row .task) at option)
         (if-both P (not (eqb (length (params at f) + 4) (row .len))) (faulty-ends to row 2)
         (if-both P (not (optionFits row option)) (faulty-ends to row 3) (does to (row .task) at option))))
 
@@ -118,7 +119,8 @@ pub decode-sound : (f : List ℕ) → Bytes f → Sound (decode f .call)
 unfolding Sound
 decode-sound f h =
     decode-ends Sound f tt (λ family sixteen at l. (l, mask-lt f (at + 1) (getD f at 0))) (λ to code. tt)
-    (λ to task at option. bytes-part at (length f - 2 - at) f h 0)
+    (λ to task at option. (bytes-part at (length f - 2 - at) f h 0, lit< tt))
+    (λ to task at option. (bytes-part at (length f - 2 - at) f h 0, bytes-part at (length f - 2 - at) f h 1))
 
 -- ---- the same of any event
 

@@ -16,6 +16,7 @@ use Rattle.request.specs.declared.label.Target.{Target}
 use Rattle.request.specs.declared.label.Target.the-variants.{Everyone, Selected, One}
 use Rattle.request.specs.declared.label.Family.{Family}
 use Rattle.request.specs.declared.label.Family.the-variants.{Any, Only}
+use Rattle.request.specs.declared.label.Params.{Params}
 use Rattle.request.specs.declared.label.Call.{Call}
 use Rattle.request.specs.declared.label.Call.the-variants.{Ignored, Off, On, EndOfFrame, Nobody, Inventory, Fault, Do}
 use Rattle.request.specs.declared.label.Request.{Request}
@@ -65,15 +66,18 @@ targetFits row to = not (row .one) || isOne to
 abbrev pub faulty : Target → Row → ℕ → Call
 faulty to row code = if hasAnswer (row .success) then Fault to code else Nobody
 
+abbrev pub both : ℕ → ℕ → Params
+both first second = record { first = first; second = second }
+
 -- by its code's row, ps its parameters: without the UID that it takes, silence; length, error 02; Option where none is allowed, 03.
--- Length and Option of 21 are its label's affair.
+-- Length and Option of 21 are its label's affair: behind its block number stands the block.
 unfoldable pub byRow : Target → Bool → List ℕ → Row → Call
 byRow to option ps row =
     if not (targetFits row to) then Nobody
-    else if row .block then Do to (row .task) (getD ps 0 0) option
+    else if row .block then Do to (row .task) (both (getD ps 0 0) 0) option
     else if not (eqb (length ps + 4) (row .len)) then faulty to row 2
     else if not (optionFits row option) then faulty to row 3
-    else Do to (row .task) (getD ps 0 0) option
+    else Do to (row .task) (both (getD ps 0 0) (getD ps 1 0)) option
 
 -- unknown code, error 01
 unfoldable pub checked : Target → Bool → List ℕ → Found → Call

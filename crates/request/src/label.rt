@@ -28,6 +28,12 @@ pub enum Family {
     Only(u8),
 }
 
+// The parameters of a task, a byte each; 0 where it has none.
+pub struct Params {
+    pub first: u8,
+    pub second: u8,
+}
+
 pub enum Call {
     // An event that labels ignore.
     Ignored,
@@ -40,8 +46,8 @@ pub enum Call {
     Inventory(Family, bool, u8, u64),
     // An error that needs no label: unknown code, length, Option.
     Fault(Target, u8),
-    // A task, its first parameter, or 0 where it has none, and Option. The bytes of a write stand beside the request.
-    Do(Target, Task, u8, bool),
+    // A task, its parameters and Option. The bytes of a write stand beside the request.
+    Do(Target, Task, Params, bool),
 }
 
 pub struct Request {
@@ -152,17 +158,20 @@ fn row_call(to: Target, option: bool, ps: &[u8], row: Row) -> Call
         return Call::Nobody;
     }
     let task = row.task;
-    let p = byte_at(ps, 0);
+    let first = byte_at(ps, 0);
     if row.block {
+        let p = Params { first, second: 0 };
         return Call::Do(to, task, p, option);
     }
     if ps.len() + 4 != row.len as usize {
         return fault(to, row, 2);
     }
-    if option_fits(row, option) {
-        return Call::Do(to, task, p, option);
+    if !option_fits(row, option) {
+        return fault(to, row, 3);
     }
-    fault(to, row, 3)
+    let second = byte_at(ps, 1);
+    let p = Params { first, second };
+    Call::Do(to, task, p, option)
 }
 
 // What a frame with code c and parameters ps asks.

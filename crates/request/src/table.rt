@@ -8,6 +8,7 @@ pub enum Task {
     Read,
     Write,
     Lock,
+    ReadMany,
     Select,
     Ready,
     WriteAfi,
@@ -15,6 +16,7 @@ pub enum Task {
     WriteDsfid,
     LockDsfid,
     Info,
+    Status,
 }
 
 // What a task's success says.
@@ -24,6 +26,8 @@ pub enum Success {
     Done,
     Block,
     Info,
+    Blocks,
+    Locks,
 }
 
 // A task's code, its frame's length without a UID, whether a block of the label's length follows, whether Option is allowed,
@@ -81,6 +85,16 @@ const LOCK: Row = Row {
     option: false,
     one: false,
     success: Success::Done,
+};
+
+const READ_MANY: Row = Row {
+    task: Task::ReadMany,
+    code: 0x23,
+    len: 6,
+    block: false,
+    option: true,
+    one: false,
+    success: Success::Blocks,
 };
 
 const SELECT: Row = Row {
@@ -153,11 +167,22 @@ const INFO: Row = Row {
     success: Success::Info,
 };
 
-const TABLE: [Row; 11] = [
+const STATUS: Row = Row {
+    task: Task::Status,
+    code: 0x2C,
+    len: 6,
+    block: false,
+    option: false,
+    one: false,
+    success: Success::Locks,
+};
+
+const TABLE: [Row; 13] = [
     QUIET,
     READ,
     WRITE,
     LOCK,
+    READ_MANY,
     SELECT,
     READY,
     WRITE_AFI,
@@ -165,6 +190,7 @@ const TABLE: [Row; 11] = [
     WRITE_DSFID,
     LOCK_DSFID,
     INFO,
+    STATUS,
 ];
 
 // The row of a task.
@@ -176,6 +202,7 @@ pub fn row_of(task: Task) -> Row
         Task::Read => READ,
         Task::Write => WRITE,
         Task::Lock => LOCK,
+        Task::ReadMany => READ_MANY,
         Task::Select => SELECT,
         Task::Ready => READY,
         Task::WriteAfi => WRITE_AFI,
@@ -183,6 +210,7 @@ pub fn row_of(task: Task) -> Row
         Task::WriteDsfid => WRITE_DSFID,
         Task::LockDsfid => LOCK_DSFID,
         Task::Info => INFO,
+        Task::Status => STATUS,
     }
 }
 
@@ -192,7 +220,7 @@ pub fn find(code: u8) -> Found
 {
     let rows = TABLE;
     let mut i = 0;
-    while i < 11 {
+    while i < 13 {
         let row = rows[i];
         if row.code == code {
             return Found::Known(row);
@@ -211,6 +239,8 @@ pub fn has_answer(success: Success) -> bool
         Success::Done => true,
         Success::Block => true,
         Success::Info => true,
+        Success::Blocks => true,
+        Success::Locks => true,
     }
 }
 

@@ -19,6 +19,7 @@ use Rattle.request.specs.declared.label.Target.the-variants.{Everyone, Selected
 use Rattle.request.specs.declared.label.Family.{Family}
 use Rattle.request.specs.declared.table.Task.{Task}
 use Rattle.request.specs.declared.table.Task.the-variants as t
+use Rattle.request.specs.declared.label.Params.{Params}
 use Rattle.request.specs.declared.label.Call.{Call}
 use Rattle.request.specs.declared.label.Call.the-variants.{Ignored, Off, On, EndOfFrame, Nobody, Inventory, Fault, Do}
 use Rattle.request.specs.declared.label.Request.{Request}
@@ -26,7 +27,8 @@ use Rattle.label.specs.declared.step.Label.{Label}
 use Rattle.label.specs.declared.step.Answer.{Answer}
 use Rattle.label.specs.declared.step.Answer.the-variants as a
 use Rattle.label.specs.declared.step.Stepped.{Stepped}
-use Rattle.label.specs.Step.{withSlot, ended, told, heeds, turn, opens, inventory, acts, readBlock, perform, passed, asked, faulted, awake, called, act}
+use Rattle.label.specs.Step.{withSlot, ended, told, heeds, turn, opens, inventory, acts, several, readBlock, readBlocks, readLocks}
+use Rattle.label.specs.Step.{perform, passed, asked, faulted, awake, called, act}
 use Rattle.label_body.specs.Body.{loadOf, storeOf, named, worked, stepped, nextLabel}
 use Rattle.label_body.specs.Slots.{seek}
 use Rattle.label_body.proofs.BodyStored.{store-seek}
@@ -70,18 +72,27 @@ module _ (l : Label) where
   unfolding faulted
   still-faulted to uid code = either (acts to uid l) (ends (a.Error code)) (ends a.Silent)
 
-  -- the two that read
+  -- those that read blocks
   still-read : (p : ℕ) (option : Bool) → Still l (readBlock p option (ended l))
   unfolding readBlock ended
   still-read p option = either (ltb (l .blocks) p) (ends (a.Error 0x10)) (ends (a.Block p option))
 
-  still-asked : (task : Task) (to : Target) (uid : List ℕ) (p : ℕ) (option : Bool) (count lock : ℕ) → calmTask (rowOf task .success) ≡ true
+  still-blocks : (n more : ℕ) (option : Bool) → Still l (readBlocks n more option (ended l))
+  unfolding readBlocks ended
+  still-blocks n more option = either (ltb (l .blocks) (n + more)) (ends (a.Error 0x10)) (ends (several option n more))
+
+  still-locks : (n more : ℕ) → Still l (readLocks n more (ended l))
+  unfolding readLocks ended
+  still-locks n more = either (ltb (l .blocks) (n + more)) (ends (a.Error 0x10)) (ends (a.Locks n more))
+
+  still-asked : (task : Task) (to : Target) (uid : List ℕ) (p : Params) (option : Bool) (count lock : ℕ) → calmTask (rowOf task .success) ≡ true
       → Still l (asked to uid task p option count lock l)
   unfolding asked perform passed rowOf calmTask
   still-asked t.Quiet to uid p option count lock h = absurd (false≢true h)
-  still-asked t.Read to uid p option count lock h = either (acts to uid l) (still-read p option) (ends a.Silent)
+  still-asked t.Read to uid p option count lock h = either (acts to uid l) (still-read (p .first) option) (ends a.Silent)
   still-asked t.Write to uid p option count lock h = absurd (false≢true h)
   still-asked t.Lock to uid p option count lock h = absurd (false≢true h)
+  still-asked t.ReadMany to uid p option count lock h = either (acts to uid l) (still-blocks (p .first) (p .second) option) (ends a.Silent)
   still-asked t.Select to uid p option count lock h = absurd (false≢true h)
   still-asked t.Ready to uid p option count lock h = absurd (false≢true h)
   still-asked t.WriteAfi to uid p option count lock h = absurd (false≢true h)
@@ -89,6 +100,7 @@ module _ (l : Label) where
   still-asked t.WriteDsfid to uid p option count lock h = absurd (false≢true h)
   still-asked t.LockDsfid to uid p option count lock h = absurd (false≢true h)
   still-asked t.Info to uid p option count lock h = either (acts to uid l) (ends a.Info) (ends a.Silent)
+  still-asked t.Status to uid p option count lock h = either (acts to uid l) (still-locks (p .first) (p .second)) (ends a.Silent)
 
   still-called : (call : Call) (uid : List ℕ) (count lock : ℕ) → calmCall call ≡ true → Still l (called call uid count lock l)
   unfolding called calmCall
@@ -102,12 +114,12 @@ module _ (l : Label) where
   still-called (Do to task p option) uid count lock h = awakes _ (still-asked task to uid p option count lock h)
 
   -- one that a frame for one UID is not for
-  still-past : (task : Task) (uid : List ℕ) (p : ℕ) (option : Bool) (count lock : ℕ) → oneTask One task ≡ true → acts One uid l ≡ false
+  still-past : (task : Task) (uid : List ℕ) (p : Params) (option : Bool) (count lock : ℕ) → oneTask One task ≡ true → acts One uid l ≡ false
       → Still l (asked One uid task p option count lock l)
   unfolding asked passed oneTask
   still-past task uid p option count lock o n = rw (n, not-so (eqb (rowOf task .code) 0x25) o) (ends a.Silent)
 
-  still-other : (to : Target) (task : Task) (uid : List ℕ) (p : ℕ) (option : Bool) (count lock : ℕ) → oneTask to task ≡ true → acts One uid l ≡ false
+  still-other : (to : Target) (task : Task) (uid : List ℕ) (p : Params) (option : Bool) (count lock : ℕ) → oneTask to task ≡ true → acts One uid l ≡ false
       → Still l (asked to uid task p option count lock l)
   unfolding oneTask
   still-other Everyone task uid p option count lock o n = absurd (false≢true o)

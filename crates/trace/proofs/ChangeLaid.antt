@@ -11,7 +11,7 @@ use lib.Dec.{eqb}
 use lib.ListN.{length, getD, set, take, drop}
 use lib.Seq.{sets, set-set, set-comm, length-sets}
 use Rattle.frame.specs.Choose.{if_then_else_, gather}
-use Rattle.frame.proofs.Bools.{below-or-not, and-true}
+use Rattle.frame.proofs.Bools.{below-or-not, and-false, and-true}
 use Rattle.print.specs.Puts.{within, Puts}
 use Rattle.print.proofs.Puts.{ahead-start, ahead-end, puts-by, puts-then, puts-length, puts-inside, puts-past}
 use Rattle.frame.specs.Number.{part}
@@ -84,10 +84,6 @@ same-on n at a b e = rw (eq-eqb _ _ e) refl
 same-off : (n at : ℕ) (a b : List ℕ) → (getD a at 0 ≡ getD b at 0 → ⊥) → sameBytes (suc n) at a b ≡ false
 unfolding sameBytes
 same-off n at a b e = rw (ne-eqb _ _ e) refl
-
-and-false : (t : Bool) → (t && false) ≡ false
-and-false true = refl
-and-false false = refl
 
 -- k of them are looked at, and `same` says whether all of these are
 pub record Matching (a b : List ℕ) (at n k : ℕ) (same : Bool) : Type 0 where

@@ -24,6 +24,8 @@ calmTask s.Never = false
 calmTask s.Done = false
 calmTask s.Block = true
 calmTask s.Info = true
+calmTask s.Blocks = true
+calmTask s.Locks = true
 
 -- a label frame that leaves all but slots and masks
 unfoldable pub calmCall : Call → Bool

@@ -21,6 +21,8 @@ fn is_reading(success: Success) -> bool
         Success::Done => false,
         Success::Block => true,
         Success::Info => true,
+        Success::Blocks => true,
+        Success::Locks => true,
     }
 }
 

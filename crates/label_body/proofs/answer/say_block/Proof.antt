@@ -1,84 +1,49 @@
--- One byte or two are laid, and the frame of them and the block over them; the block lies inside the body.
+-- 00 is laid, the block behind it, and both are sealed.
 -- Assumes nothing.
-use mathlib.Core.Path.{refl, ap, _∙_}
+use mathlib.Core.Path.{refl, _∙_}
+use mathlib.Core.Bool.{true}
 use mathlib.Core.List.{[], _∷_}
-use Prim.Native.Nat.{_≤_}
+use Prim.Native.Nat.{_+_, _≤_}
 use native.Mathlib.Omega.{arith}
 use denote.Ref.{now}
 use lib.ListN.{length, length-set}
-use lib.Seq.{sets}
-use borrow.Author.Needs.{needs}
-use Rattle.frame.specs.Number.{part}
-use Rattle.frame.proofs.Stores.{length-part}
-use Rattle.frame.proofs.Puts.{laid-part}
-use Rattle.label_body.specs.Body.{sizeOf}
-use Rattle.label_body.proofs.BodyRoom.{sized-long}
-use Rattle.label_body.proofs.AnswerLaid.{block-locked, block-plain, block-inside, block-least, locked-length, plain-length}
+use Rattle.frame.proofs.CheckSumFrames.{length-framed}
+use Rattle.frame.proofs.Puts.{laid-more, laid-seal}
+use Rattle.label_body.specs.Answer.{blockBytes, answerFrame}
 use Rattle.label_body.proofs.answer.say_block.Statement.{statement}
 use Rattle.label_body.proofs.answer.say_block.Tie as tie
 
-least : (c : tie.After-place) → 3 ≤ length (now (c .before .before .before .before .args .out))
-least c =
-    let s = c .before .before .before .before in
-    omega (arith, block-least (now (s .args .b)) (s .args .n) (s .args .lock), s .pre .1)
+room : (s : tie.Start) → length (blockBytes (s .args .n) (s .args .lock) (now (s .args .b))) + 3 ≤ length (now (s .args .out))
+unfolding answerFrame
+room s = omega (arith, length-framed 0xFFFF true (0 ∷ blockBytes (s .args .n) (s .args .lock) (now (s .args .b))), s .pre .1)
 
-seal-part-requires : tie.Need-seal-part-requires
-seal-part-requires c κs =
+lay-block-requires : tie.Need-lay-block-requires
+lay-block-requires c κs =
+    let s = c .before .before .before in
+    (s .pre .0, simp length-set (omega (arith, room s)))
+
+seal-requires : tie.Need-seal-requires
+seal-requires c κs =
     let s = c .before .before .before .before .before .before .before in
-    let l = locked-length _ _ (s .pre .0 .0) (s .pre .0 .1) _ (c .before .before .if1 .taken) in
-    (block-inside _ _ _ (c .before .before .before .place .ensures) (s .pre .0 .0) (s .pre .0 .1), simp length-set (omega (arith, l, s .pre .1)))
+    let k = c .before .before .before .lay-block in
+    omega (arith, room s, k .ensures .0, simp length-set at (k .kept .1 .1 .1 .0))
 
 returns : tie.Need-returns
+unfolding answerFrame
 returns c =
     let s = c .before .before .before .before .before .before .before .before .before .before in
-    let b = now (s .args .b) in
-    let old = now (s .args .out) in
-    let k = c .before .before .before .before in
-    let at = k .before .before .place .result in
-    let p = k .before .before .place .ensures in
-    let w = block-inside b (s .args .n) at p (s .pre .0 .0) (s .pre .0 .1) in
-    let l =
-    laid-part {xs = 0 ∷ k .lock-on .result ∷ []} {old = old} (part at (sizeOf b) b) (record { long = refl; is = refl })
-    (omega (arith, block-least b (s .args .n) (s .args .lock), s .pre .1)) (length-part at (sizeOf b) b w) (c .before .before .seal-part .ensures)
-    in
-    let e = block-locked b (s .args .n) at p (s .args .lock) (k .lock-on .ensures) (k .before .if1 .taken) in
-    (l .long ∙ ap length e, l .is ∙ ap (sets old 0) e)
-
-seal-part-requires-2 : tie.Need-seal-part-requires-2
-seal-part-requires-2 c κs =
-    let s = c .before .before .before .before .before .before in
-    let l = plain-length _ _ (s .pre .0 .0) (s .pre .0 .1) _ (c .before .if1 .left) in
-    (block-inside _ _ _ (c .before .before .place .ensures) (s .pre .0 .0) (s .pre .0 .1), simp length-set (omega (arith, l, s .pre .1)))
-
-returns-2 : tie.Need-returns-2
-returns-2 c =
-    let s = c .before .before .before .before .before .before .before .before .before in
-    let b = now (s .args .b) in
-    let old = now (s .args .out) in
-    let at = c .before .before .before .before .before .place .result in
-    let p = c .before .before .before .before .before .place .ensures in
-    let w = block-inside b (s .args .n) at p (s .pre .0 .0) (s .pre .0 .1) in
-    let l =
-    laid-part {xs = 0 ∷ []} {old = old} (part at (sizeOf b) b) (record { long = refl; is = refl })
-    (omega (arith, block-least b (s .args .n) (s .args .lock), s .pre .1)) (length-part at (sizeOf b) b w) (c .before .before .seal-part2 .ensures)
-    in
-    let e = block-plain b (s .args .n) at p (s .args .lock) (c .before .before .before .before .if1 .left) in
-    (l .long ∙ ap length e, l .is ∙ ap (sets old 0) e)
+    let x = blockBytes (s .args .n) (s .args .lock) (now (s .args .b)) in
+    let k = c .before .before .before .before .before .before .lay-block .ensures in
+    let l = laid-more (0 ∷ []) x 1 _ (now (s .args .out)) _ _ (record { long = refl; is = refl }) (k .0) (k .1) in
+    let f = laid-seal 0xFFFF true l (omega (arith, room s)) (c .before .before .seal .ensures) in
+    (f .long, f .is)
 
 pub say-block-spec : {M : Type 1} → statement M
 say-block-spec =
     tie.close
     (tie.spec
-    (λ c. omega (arith, sized-long (now (c .before .before .before .args .b)) (c .before .before .before .pre .0 .0)))
-    (λ c. omega (arith, c .shared-slice-known2 .given 12))
-    (λ c. omega (arith, c .shared-slice-known2 .given 12))
-    (λ c κs. sized-long (now (c .before .before .before .args .b)) (c .before .before .before .pre .0 .0))
-    (λ c. omega (arith, least c))
-    (λ c κs. search needs)
-    (λ c. simp length-set (omega (arith, least (c .before .before))))
-    seal-part-requires
-    (λ c. c .before .before .seal-part .kept .0 ∙ simp length-set)
-    returns
-    seal-part-requires-2
-    (λ c. c .before .before .seal-part2 .kept .0 ∙ simp length-set)
-    returns-2)
+    (λ c. omega (arith, room (c .before .before)))
+    lay-block-requires
+    seal-requires
+    (λ c. c .before .before .seal .kept .0 ∙ c .before .before .before .before .before .before .lay-block .kept .1 .1 .1 .0 ∙ simp length-set)
+    returns)

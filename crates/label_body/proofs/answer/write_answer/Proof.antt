@@ -29,6 +29,24 @@ say-block-requires c κs =
     let s = c .before .before .before .before .before .before in
     rw (c .before .before .a2 .given .1) at (s .pre)
 
+say-blocks-requires : tie.Need-say-blocks-requires
+unfolding answerFrame AnswerFits
+say-blocks-requires c κs =
+    let s = c .before .before .before .before .before .before in
+    rw (c .before .before .a3 .given .1) at (s .pre)
+
+say-blocks-requires-2 : tie.Need-say-blocks-requires-2
+unfolding answerFrame AnswerFits
+say-blocks-requires-2 c κs =
+    let s = c .before .before .before .before .before .before in
+    rw (c .before .before .a4 .given .1) at (s .pre)
+
+say-locks-requires : tie.Need-say-locks-requires
+unfolding answerFrame AnswerFits
+say-locks-requires c κs =
+    let s = c .before .before .before .before .before .before in
+    rw (c .before .before .a5 .given .1) at (s .pre)
+
 returns-2 : tie.Need-returns-2
 unfolding answerFrame AnswerFits
 returns-2 c =
@@ -89,6 +107,12 @@ write-answer-spec =
     (λ c κs. let s = c .before .before .before .before .before in
     let l = sized-long (now (s .args .b)) (s .pre .0 .0) in
     (l, info-room _ _ _ (s .pre .1) (c .before .enum-told4 .given .1) l))
+    (λ c. search needs)
+    say-blocks-requires
+    (λ c. search needs)
+    say-blocks-requires-2
+    (λ c. search needs)
+    say-locks-requires
     (λ c. rw (c .enum-told .given .1) (refl, refl))
     (λ c. c .before .before .seal .kept .0 ∙ simp length-set)
     returns-2
@@ -99,4 +123,10 @@ write-answer-spec =
     (λ c. search needs)
     (λ c. rw (c .before .before .before .before .before .a2 .given .1) (c .before .before .say-block .ensures))
     (λ c. search needs)
-    returns-6)
+    returns-6
+    (λ c. search needs)
+    (λ c. rw (c .before .before .before .before .before .a3 .given .1) (c .before .before .say-blocks .ensures))
+    (λ c. search needs)
+    (λ c. rw (c .before .before .before .before .before .a4 .given .1) (c .before .before .say-blocks2 .ensures))
+    (λ c. search needs)
+    (λ c. rw (c .before .before .before .before .before .a5 .given .1) (c .before .before .say-locks .ensures)))

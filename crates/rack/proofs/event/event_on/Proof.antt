@@ -4,6 +4,7 @@ use mathlib.Core.Path.{_≡_, sym, _∙_}
 use denote.Ref.{now}
 use borrow.Author.Needs.{needs}
 use lib.ListN.{length}
+use Rattle.frame.specs.Number.{Bytes}
 use Rattle.rack.specs.Event.{carrying, aired, refusalOf}
 use Rattle.rack.proofs.EventOutcomes.{Playable, playable, event-is, shows-refused, shows-silent, tellable, fits-told, shows-alone}
 use Rattle.rack.proofs.event.event_on.Statement.{statement}
@@ -20,6 +21,9 @@ none c = sym (c .before .refuse .ensures) ∙ c .if1 .left
 may : (c : tie.Else1)
     → Playable (now (start c .args .rack)) (start c .args .number) (length (now (start c .args .draws))) (length (now (start c .args .answer)))
 may c = playable _ _ _ _ (none c)
+
+bytes : (c : tie.Else1) → Bytes (now (start c .args .rack))
+bytes c i = c .before .before .before .before .before .before .slice-known .given i .fits
 
 -- from the pass over the tags back
 abbrev on : tie.After-play → tie.Else1
@@ -46,14 +50,14 @@ tell-requires c κs =
     let p = c .before .before .before .before .before .before in
     let m = may (on p) in
     let a = p .play .ensures .0 .alone (c .before .before .if2 .left) in
-    (tellable _ _ _ (m .rack) _ _ _ a (p .play .ensures .1), fits-told _ _ _ (m .rack) _ _ _ a (p .play .ensures .1) (m .space))
+    (tellable _ _ _ (m .rack) _ _ _ a (p .play .ensures .1), fits-told _ _ _ (m .rack) _ _ _ a (p .play .ensures .1) (bytes (on p)) (m .space))
 
 returns-3 : tie.Need-returns-3
 returns-3 c =
     let o = c .before .before .before .before .before in
     let p = o .before .before .before .before in
     let t = c .before .before .tell .ensures in
-    shows-alone _ _ _ _ _ (none (on p)) _ (is p) _ _ _ _ (p .play .ensures .0) (p .play .ensures .1) (o .if2 .left) _ _ (t .0) (t .1)
+    shows-alone _ _ _ _ _ (none (on p)) _ (is p) _ _ _ _ (p .play .ensures .0) (p .play .ensures .1) (bytes (on p)) (o .if2 .left) _ _ (t .0) (t .1)
 
 pub event-on-spec : {M : Type 1} → statement M
 event-on-spec =

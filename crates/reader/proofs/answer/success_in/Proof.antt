@@ -12,6 +12,11 @@ success-in-spec =
     tie.close
     (tie.spec
     (λ c. search needs)
+    (λ c. search needs)
+    (λ c κs. search needs)
+    (λ c. search needs)
+    (λ c κs. search needs)
+    (λ c. search needs)
     (λ c κs. search needs)
     (λ c. search needs)
     (λ c κs. search needs)
@@ -19,6 +24,8 @@ success-in-spec =
     (λ c κs. search needs)
     (λ c. search needs)
     (λ c κs. search needs)
+    (λ c. search ways)
+    (λ c. search ways)
     (λ c. search ways)
     (λ c. search ways)
     (λ c. search ways)

@@ -14,4 +14,6 @@ row-fits-spec =
     (λ c κs. search needs)
     (λ c. search ways)
     (λ c κs. search needs)
+    (λ c. search ways)
+    (λ c κs. search needs)
     (λ c. search ways))

@@ -14,12 +14,14 @@ label-plan-spec =
     (λ c. search needs)
     (λ c. search needs)
     (λ c κs. search needs)
-    (λ c κs. search needs)
+    (λ c. search needs)
+    (λ c. search needs)
+    (λ c. search needs)
+    (λ c. search needs)
     (λ c. search needs)
     (λ c. search needs)
     (λ c κs. search needs)
     (λ c.
-    let s = c .before in
-    let u = s .before .before in
-    let f = u .before .before in
-    (rw (f .flags-of .ensures .0, u .before .wide .ensures, u .uid-count .ensures, s .before .wide2 .ensures, c .data-count .ensures), omega arith)))
+    let u = c .before .before .before .before in
+    let w = u .before in
+    (rw (w .before .flags-of .ensures .0, w .wide .ensures, u .uid-count .ensures, c .data-count .ensures), (omega arith, omega arith))))

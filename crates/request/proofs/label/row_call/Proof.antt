@@ -22,22 +22,23 @@ returns-3 c =
 
 returns-4 : tie.Need-returns-4
 returns-4 c =
-    let l = c .before .before in
-    let b = l .before .before in
-    let u = b .before .before in
-    sym
-    (row-fits _ _ _ _ (u .before .target-fits .ensures) (not-false _ (u .if1 .left)) (b .before .byte-at .ensures) (b .if2 .left) (l .if3 .left)
-    (c .before .option-fits .ensures) (c .if4 .taken))
-
-returns-5 : tie.Need-returns-5
-returns-5 c =
     let l = c .before .before .before in
     let b = l .before .before in
     let u = b .before .before in
     c .fault2 .ensures
     ∙ sym
     (row-option _ _ _ _ (u .before .target-fits .ensures) (not-false _ (u .if1 .left)) (b .before .byte-at .ensures) (b .if2 .left) (l .if3 .left)
-    (c .before .before .option-fits .ensures) (c .before .if4 .left))
+    (c .before .before .option-fits .ensures) (not-true _ (c .before .if4 .taken)))
+
+returns-5 : tie.Need-returns-5
+returns-5 c =
+    let o = c .before in
+    let l = o .before .before in
+    let b = l .before .before in
+    let u = b .before .before in
+    sym
+    (row-fits _ _ _ _ (u .before .target-fits .ensures) (not-false _ (u .if1 .left)) (b .before .byte-at .ensures) (b .if2 .left) (l .if3 .left)
+    (o .before .option-fits .ensures) (not-false _ (o .if4 .left)) (c .byte-at2 .ensures))
 
 pub row-call-spec : {M : Type 1} → statement M
 row-call-spec =
@@ -51,6 +52,7 @@ row-call-spec =
     (λ c. search needs)
     (λ c κs. search needs)
     returns-3
+    (λ c κs. search needs)
     (λ c κs. search needs)
     returns-4
     (λ c κs. search needs)

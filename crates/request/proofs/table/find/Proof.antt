@@ -15,10 +15,10 @@ use Rattle.request.proofs.table.find.Statement.{statement}
 use Rattle.request.proofs.table.find.Tie as tie
 
 abbrev Inv-loop : tie.InvT-loop
-Inv-loop code rows i₀ i = (i ≤ 11) × (lookup code table ≡ lookup code (drop i table))
+Inv-loop code rows i₀ i = (i ≤ 13) × (lookup code table ≡ lookup code (drop i table))
 
 abbrev μ-loop : tie.MeasureT-loop
-μ-loop code rows i₀ i = 11 - i
+μ-loop code rows i₀ i = 13 - i
 
 -- what the array's read gives past its end, which is never read
 abbrev none : Row
@@ -42,7 +42,7 @@ returns-2 : tie.Need-returns-2 Inv-loop μ-loop
 unfolding table rowOf lookup
 returns-2 c =
     let v = c .before .loop in
-    let e : v .i ≡ 11 = omega arith in
+    let e : v .i ≡ 13 = omega arith in
     sym (v .inv .1 ∙ rw e)
 
 pub find-spec : {M : Type 1} → statement M

@@ -1,8 +1,7 @@
 -- By whether it changed. Assumes nothing.
 use mathlib.Core.Path.{ap, refl, _∙_}
 use native.Mathlib.Omega.{arith}
-use Rattle.label_body.proofs.BodyRoom.{sized-long}
-use Rattle.label_body.proofs.AnswerLaid.{block-inside}
+use Rattle.label_body.proofs.BodyRoom.{sized-long, block-inside}
 use Rattle.print.proofs.Puts.{puts-by}
 use Rattle.trace.specs.Change.{contentText}
 use Rattle.trace.specs.Labels.{blockContent}
