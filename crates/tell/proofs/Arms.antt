@@ -7,11 +7,12 @@ use Rattle.frame.proofs.Tests.{tests}
 use Rattle.print.specs.Puts.{Puts}
 use Rattle.print.proofs.Puts.{puts-then}
 use Rattle.request.specs.declared.table.Task.{Task}
+use Rattle.request.specs.declared.label.Params.{Params}
 use Rattle.request.specs.declared.label.Target.{Target}
 use Rattle.request.specs.declared.label.Family.{Family}
 use Rattle.request.specs.declared.label.Call.{Call}
 use Rattle.request.specs.declared.chip.Order.{Order}
-use Rattle.tell.specs.Names.{targetText, readText, taskText, slotsText, familyText, callText, orderText}
+use Rattle.tell.specs.Names.{targetText, readText, readManyText, taskText, slotsText, familyText, callText, orderText}
 
 module _ {at : ℕ} {old new : List ℕ} {r : ℕ} where
   pub target-arm : (to k : Target) (uid : List ℕ) → to ≡ k → Puts (targetText k uid) at old new r → Puts (targetText to uid) at old new r
@@ -20,7 +21,10 @@ module _ {at : ℕ} {old new : List ℕ} {r : ℕ} where
   pub read-arm : (n : ℕ) (option k : Bool) → option ≡ k → Puts (readText n k) at old new r → Puts (readText n option) at old new r
   read-arm n option k e h = rw e h
 
-  pub task-arm : (task k : Task) (p : ℕ) (option : Bool) → task ≡ k → Puts (taskText k p option) at old new r → Puts (taskText task p option) at old new r
+  pub many-arm : (p : Params) (option k : Bool) → option ≡ k → Puts (readManyText p k) at old new r → Puts (readManyText p option) at old new r
+  many-arm p option k e h = rw e h
+
+  pub task-arm : (task k : Task) (p : Params) (option : Bool) → task ≡ k → Puts (taskText k p option) at old new r → Puts (taskText task p option) at old new r
   task-arm task k p option e h = rw e h
 
   pub slots-arm : (sixteen k : Bool) → sixteen ≡ k → Puts (slotsText k) at old new r → Puts (slotsText sixteen) at old new r
@@ -35,4 +39,4 @@ module _ {at : ℕ} {old new : List ℕ} {r : ℕ} where
   pub order-arm : (order k : Order) → order ≡ k → Puts (orderText k) at old new r → Puts (orderText order) at old new r
   order-arm order k e h = rw e h
 
-pub ruleset arms = (tests, puts-then, target-arm, read-arm, task-arm, slots-arm, family-arm, call-arm, order-arm)
+pub ruleset arms = (tests, puts-then, target-arm, read-arm, many-arm, task-arm, slots-arm, family-arm, call-arm, order-arm)

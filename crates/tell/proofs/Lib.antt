@@ -3,6 +3,7 @@ pub mod Arms
 pub mod CommandWays
 pub mod Front
 pub mod MeaningWays
+pub mod SeveralWays
 pub mod LineWays
 pub mod CommandAsked
 pub mod CommandRead

@@ -15,6 +15,7 @@ use Rattle.print.proofs.Puts.{puts-then}
 use Rattle.request.specs.Table.{rowOf}
 use Rattle.request.specs.declared.table.Task.{Task}
 use Rattle.request.specs.declared.table.Row.{Row}
+use Rattle.request.specs.declared.label.Params.{Params}
 use Rattle.request.specs.declared.label.Target.{Target}
 use Rattle.request.specs.declared.signal.Signal.{Signal}
 use Rattle.reader.specs.declared.command.Command.{Command}
@@ -23,7 +24,7 @@ use Rattle.reader.specs.declared.answer.Meaning.{Meaning}
 use Rattle.reader.specs.declared.answer.Meaning.the-variants as m
 use Rattle.reader.specs.declared.answer.Reading.{Reading}
 use Rattle.tell.specs.Commands.{commandOf, readingFor}
-use Rattle.tell.specs.Meanings.{writesBlock, deniedWords, shownText, lockBlockText, meantText, meaningText, answerText}
+use Rattle.tell.specs.Meanings.{writesBlock, firstOf, deniedWords, shownText, lockBlockText, meantText, meaningText, answerText}
 
 -- ---- a part of a slice: past its end, cut at its end, whole
 
@@ -42,10 +43,15 @@ module _ (s : List ℕ) (at n : ℕ) where
 pub writes-arm : (r : Bool) (c k : Command) → c ≡ k → r ≡ writesBlock k → r ≡ writesBlock c
 writes-arm r c k e h = rw e h
 
-pub writes-row : (c : Command) (to : Target) (option : Bool) (task : Task) (p : ℕ) (row : Row) → c ≡ Label to option task p → row ≡ rowOf task
+pub writes-row : (c : Command) (to : Target) (option : Bool) (task : Task) (p : Params) (row : Row) → c ≡ Label to option task p → row ≡ rowOf task
     → row .block ≡ writesBlock c
 unfolding writesBlock
 writes-row c to option task p row e f = rw e (ap (λ (x : Row). x .block) f)
+
+-- ---- the block that is asked for first
+
+pub first-arm : (r : ℕ) (c k : Command) → c ≡ k → r ≡ firstOf k → r ≡ firstOf c
+first-arm r c k e h = rw e h
 
 -- ---- texts
 
@@ -61,24 +67,24 @@ module _ {at : ℕ} {old new : List ℕ} {r : ℕ} where
   unfolding shownText
   shown-no lead s b e h p = rw (← e, h) p
 
-  module _ (writes : Bool) (meaning : Meaning) (uid f : List ℕ) where
-    pub meant-arm : (k : Meaning) → meaning ≡ k → Puts (meantText writes k uid f) at old new r → Puts (meantText writes meaning uid f) at old new r
+  module _ (writes : Bool) (first : ℕ) (meaning : Meaning) (uid f : List ℕ) where
+    pub meant-arm : (k : Meaning) → meaning ≡ k → Puts (meantText writes first k uid f) at old new r → Puts (meantText writes first meaning uid f) at old new r
     meant-arm k e p = rw e p
 
     pub block-arm : (place long : ℕ) (s : List ℕ) → meaning ≡ m.Block place long → s ≡ part place long f → Puts (shownText [] s) at old new r
-        → Puts (meantText writes meaning uid f) at old new r
+        → Puts (meantText writes first meaning uid f) at old new r
     unfolding meantText
     block-arm place long s e h p = rw (e, ← h) p
 
     pub lock-block-arm : (lock place long : ℕ) (s : List ℕ) → meaning ≡ m.LockAndBlock lock place long → s ≡ part place long f
-        → Puts (lockBlockText lock s) at old new r → Puts (meantText writes meaning uid f) at old new r
+        → Puts (lockBlockText lock s) at old new r → Puts (meantText writes first meaning uid f) at old new r
     unfolding meantText
     lock-block-arm lock place long s e h p = rw (e, ← h) p
 
-  pub meaning-way : (command : Command) (reading : Reading) (f : List ℕ) (b : Bool) → b ≡ writesBlock command
-      → Puts (meantText b (reading .meaning) (reading .uid) f) at old new r → Puts (meaningText command reading f) at old new r
+  pub meaning-way : (command : Command) (reading : Reading) (f : List ℕ) (b : Bool) (first : ℕ) → b ≡ writesBlock command
+      → first ≡ firstOf command → Puts (meantText b first (reading .meaning) (reading .uid) f) at old new r → Puts (meaningText command reading f) at old new r
   unfolding meaningText
-  meaning-way command reading f b e p = rw (← e) p
+  meaning-way command reading f b first e h p = rw (← e, ← h) p
 
   pub answer-way : (number : ℕ) (signal : Signal) (f : List ℕ) (command : Command) (reading : Reading) → command ≡ commandOf number signal
       → reading ≡ readingFor number signal f → Puts (meaningText command reading f) at old new r → Puts (answerText number signal f) at old new r
@@ -93,6 +99,7 @@ pub ruleset ways = (
   part-whole,
   writes-arm,
   writes-row,
+  first-arm,
   denied-words,
   shown-yes,
   shown-no,

@@ -1,10 +1,12 @@
 -- The command that an event asks, so that its answer can be read. Assumes nothing.
 use mathlib.Core.Bool.{true, false, _&&_}
 use mathlib.Core.List.{List}
-use Prim.Native.Nat.{ℕ}
-use lib.Dec.{eqb}
+use Prim.Native.Nat.{ℕ, _+_}
+use lib.Dec.{eqb, leb}
 use Rattle.frame.specs.Choose.{if_then_else_}
 use Rattle.request.specs.Table.{rowOf}
+use Rattle.request.specs.Label.{both}
+use Rattle.request.specs.declared.label.Params.{Params}
 use Rattle.request.specs.declared.table.Task.the-variants as t
 use Rattle.request.specs.declared.label.Target.the-variants.{Everyone}
 use Rattle.request.specs.declared.label.Family.the-variants.{Any}
@@ -24,6 +26,10 @@ use Rattle.reader.specs.Answer.{readingOf}
 abbrev nothing : Command
 nothing = Other 0 0
 
+-- blocks over 255 are answered by an error, which fits however many are asked for
+unfoldable pub within : Params → Params
+within p = if leb (p .first + p .second) 255 then p else both (p .first) 0
+
 -- an end of frame asks the next slot of an Inventory, whose mask it does not say; a fault's answer is an error, which fits every label command
 -- with an answer; Option on a task that may not have it is an error too
 unfoldable pub labelCommand : Call → Command
@@ -33,8 +39,8 @@ labelCommand k.On = nothing
 labelCommand k.EndOfFrame = Inventory Everyone false Any true 0 0
 labelCommand k.Nobody = nothing
 labelCommand (k.Inventory family sixteen bits mask) = Inventory Everyone false family sixteen bits mask
-labelCommand (k.Fault to code) = Label to false t.Ready 0
-labelCommand (k.Do to task p option) = Label to (option && rowOf task .option) task p
+labelCommand (k.Fault to code) = Label to false t.Ready (both 0 0)
+labelCommand (k.Do to task p option) = Label to (option && rowOf task .option) task (within p)
 
 abbrev chip : ChipTask → Command
 chip task = Chip Everyone false task

@@ -1,7 +1,7 @@
 -- What an event asks, in words. Assumes nothing.
 use mathlib.Core.Bool.{Bool, true, false}
 use mathlib.Core.List.{List, _++_}
-use Prim.Native.Nat.{ℕ}
+use Prim.Native.Nat.{ℕ, _+_}
 use lib.Dec.{eqb}
 use Rattle.frame.specs.Choose.{if_then_else_}
 use Rattle.frame.specs.Number.{bytesOf}
@@ -11,6 +11,7 @@ use Rattle.print.specs.Hex.{uidText}
 use Rattle.print.specs.Named.{wordByte, wordNumber}
 use Rattle.request.specs.declared.table.Task.{Task}
 use Rattle.request.specs.declared.table.Task.the-variants as t
+use Rattle.request.specs.declared.label.Params.{Params}
 use Rattle.request.specs.declared.label.Target.{Target}
 use Rattle.request.specs.declared.label.Target.the-variants.{Everyone, Selected, One}
 use Rattle.request.specs.declared.label.Family.{Family}
@@ -40,21 +41,34 @@ unfoldable pub readText : ℕ → Bool → List ℕ
 readText n true = wordNumber (ascii "read block ") n ++ ascii " with lock of "
 readText n false = blockOf (ascii "read block ") n
 
+-- a first block and a last one
+unfoldable pub rangeText : List ℕ → Params → List ℕ
+rangeText s p = wordNumber s (p .first) ++ wordNumber (ascii " to ") (p .first + p .second)
+
+unfoldable pub readManyText : Params → Bool → List ℕ
+readManyText p true = rangeText (ascii "read blocks ") p ++ ascii " with locks of "
+readManyText p false = rangeText (ascii "read blocks ") p ++ ascii " of "
+
+unfoldable pub statusText : Params → List ℕ
+statusText p = rangeText (ascii "status of blocks ") p ++ ascii " of "
+
 -- a task, up to the target
-unfoldable pub taskText : Task → ℕ → Bool → List ℕ
+unfoldable pub taskText : Task → Params → Bool → List ℕ
 taskText t.Quiet p option = ascii "quiet "
-taskText t.Read p option = readText p option
-taskText t.Write p option = blockOf (ascii "write block ") p
-taskText t.Lock p option = blockOf (ascii "lock block ") p
+taskText t.Read p option = readText (p .first) option
+taskText t.Write p option = blockOf (ascii "write block ") (p .first)
+taskText t.Lock p option = blockOf (ascii "lock block ") (p .first)
+taskText t.ReadMany p option = readManyText p option
 taskText t.Select p option = ascii "select "
 taskText t.Ready p option = ascii "ready "
-taskText t.WriteAfi p option = byteOf (ascii "write AFI ") p
+taskText t.WriteAfi p option = byteOf (ascii "write AFI ") (p .first)
 taskText t.LockAfi p option = ascii "lock AFI of "
-taskText t.WriteDsfid p option = byteOf (ascii "write DSFID ") p
+taskText t.WriteDsfid p option = byteOf (ascii "write DSFID ") (p .first)
 taskText t.LockDsfid p option = ascii "lock DSFID of "
 taskText t.Info p option = ascii "info of "
+taskText t.Status p option = statusText p
 
-unfoldable pub doText : Target → List ℕ → Task → ℕ → Bool → List ℕ
+unfoldable pub doText : Target → List ℕ → Task → Params → Bool → List ℕ
 doText to uid task p option = taskText task p option ++ targetText to uid
 
 -- an Inventory: its slots, the family where one is asked, the mask where there is one

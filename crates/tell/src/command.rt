@@ -6,6 +6,7 @@ use reader::command::Command;
 use request::chip::Order;
 use request::label::Call;
 use request::label::Family;
+use request::label::Params;
 use request::label::Target;
 use request::signal::Signal;
 use request::table::Task;
@@ -13,7 +14,7 @@ use request::table::row_of;
 ghost use mathlib.Core.Path.{_≡_};
 ghost use mathlib.Core.Bool.{_&&_};
 ghost use Rattle.request.specs.Table.{rowOf};
-ghost use Rattle.tell.specs.Commands.{labelCommand, chipCommand, commandOf, readingFor};
+ghost use Rattle.tell.specs.Commands.{within, labelCommand, chipCommand, commandOf, readingFor};
 
 // How many bytes of data are taken to stand beside a command: right for every block.
 const DATA: usize = 4;
@@ -29,6 +30,19 @@ fn has_option(task: Task, option: bool) -> bool
     false
 }
 
+// Parameters of a command that has a request: where blocks over 255 are asked for, the first alone.
+fn keep_within(p: Params) -> Params
+    ensures { λ r. ⌜ r ≡ within p ⌝ }
+{
+    if p.first as u32 + p.second as u32 <= 255 {
+        return p;
+    }
+    Params {
+        first: p.first,
+        second: 0,
+    }
+}
+
 fn label_command(call: Call) -> Command
     ensures { λ r. ⌜ r ≡ labelCommand call ⌝ }
 {
@@ -41,8 +55,16 @@ fn label_command(call: Call) -> Command
         Call::Inventory(family, sixteen, bits, mask) => {
             Command::Inventory(Target::Everyone, false, family, sixteen, bits, mask)
         }
-        Call::Fault(to, _) => Command::Label(to, false, Task::Ready, 0),
-        Call::Do(to, task, p, option) => Command::Label(to, has_option(task, option), task, p),
+        Call::Fault(to, _) => {
+            let p = Params {
+                first: 0,
+                second: 0,
+            };
+            Command::Label(to, false, Task::Ready, p)
+        }
+        Call::Do(to, task, p, option) => {
+            Command::Label(to, has_option(task, option), task, keep_within(p))
+        }
     }
 }
 

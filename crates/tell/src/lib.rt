@@ -3,3 +3,4 @@ pub mod command;
 pub mod line;
 pub mod meaning;
 pub mod name;
+mod several;

@@ -1,6 +1,9 @@
 // What an answer means, in words.
 use crate::command::command_of;
 use crate::command::reading_of;
+use crate::several::put_locked_blocks;
+use crate::several::put_locks;
+use crate::several::put_plain_blocks;
 use print::hex::put_uid;
 use print::named::put_word_byte;
 use print::named::put_word_number;
@@ -14,9 +17,11 @@ use reader::command::Command;
 use request::signal::Signal;
 use request::table::row_of;
 ghost use mathlib.Core.Path.{_≡_};
+ghost use lib.ListN.{length};
 ghost use Rattle.frame.specs.Number.{part};
 ghost use Rattle.print.specs.Puts.{Puts};
-ghost use Rattle.tell.specs.Meanings.{writesBlock, deniedWords, errorWords, errorText, shownText, lockText, lockBlockText, foundText};
+ghost use Rattle.reader.specs.Answer.{Inside};
+ghost use Rattle.tell.specs.Meanings.{writesBlock, firstOf, deniedWords, errorWords, errorText, shownText, lockText, lockBlockText, foundText};
 ghost use Rattle.tell.specs.Meanings.{sizesText, infoText, wordText, meantText, meaningText, answerText};
 
 // The n bytes of s at a place, as far as it has them.
@@ -46,6 +51,18 @@ fn writes_block(command: Command) -> bool
         }
         Command::Chip(_, _, _) => false,
         Command::Other(_, _) => false,
+    }
+}
+
+// The block that a command for labels asks for first.
+fn first_of(command: Command) -> u8
+    ensures { λ r. ⌜ r ≡ firstOf command ⌝ }
+{
+    match command {
+        Command::Inventory(_, _, _, _, _, _) => 0,
+        Command::Label(_, _, _, p) => p.first,
+        Command::Chip(_, _, _) => 0,
+        Command::Other(_, _) => 0,
     }
 }
 
@@ -165,15 +182,18 @@ fn put_lock_block(out: &mut [u8], at: usize, lock: u8, s: &[u8]) -> usize
     put_shown(out, p, b", ", s)
 }
 
+// A meaning; `first` is the block that was asked for first.
 fn put_meant(
     out: &mut [u8],
     at: usize,
     writes: bool,
+    first: u8,
     meaning: Meaning,
     uid: [u8; 8],
     frame: &[u8],
 ) -> usize
-    ensures { λ r. ⌜ Puts (meantText writes meaning uid (now (frame .entry))) at (now (out .entry)) (now (out .exit)) r ⌝ }
+    requires { ⌜ Inside meaning (length (now frame)) ⌝ }
+    ensures { λ r. ⌜ Puts (meantText writes first meaning uid (now (frame .entry))) at (now (out .entry)) (now (out .exit)) r ⌝ }
 {
     match meaning {
         Meaning::Refused(_) => put_text(out, at, b"not an answer to this"),
@@ -190,22 +210,30 @@ fn put_meant(
         Meaning::Id(id) => put_word_byte(out, at, b"Chip_ID ", id),
         Meaning::Word(w) => put_chip_word(out, at, w),
         Meaning::Uid => put_uid(out, at, uid),
+        Meaning::Blocks(place, n, count) => put_plain_blocks(out, at, frame, place, n, count),
+        Meaning::LocksAndBlocks(place, n, count) => {
+            put_locked_blocks(out, at, frame, first, place, n, count)
+        }
+        Meaning::Locks(place, count) => put_locks(out, at, frame, first, place, count),
     }
 }
 
 // What the reading of a frame as an answer to a command means.
-pub fn put_meaning(
-    out: &mut [u8],
-    at: usize,
-    command: Command,
-    reading: Reading,
-    frame: &[u8],
-) -> usize
+fn put_meaning(out: &mut [u8], at: usize, command: Command, reading: Reading, frame: &[u8]) -> usize
+    requires { ⌜ Inside (reading .meaning) (length (now frame)) ⌝ }
     ensures { λ r. ⌜ Puts (meaningText command reading (now (frame .entry))) at (now (out .entry)) (now (out .exit)) r ⌝ }
 {
     let meaning = reading.meaning;
     let uid = reading.uid;
-    put_meant(out, at, writes_block(command), meaning, uid, frame)
+    put_meant(
+        out,
+        at,
+        writes_block(command),
+        first_of(command),
+        meaning,
+        uid,
+        frame,
+    )
 }
 
 // What a frame means as an answer to event `number`.

@@ -8,11 +8,12 @@ use print::put::put_text;
 use request::chip::Order;
 use request::label::Call;
 use request::label::Family;
+use request::label::Params;
 use request::label::Target;
 use request::signal::Signal;
 use request::table::Task;
 ghost use Rattle.print.specs.Puts.{Puts};
-ghost use Rattle.tell.specs.Names.{targetText, blockOf, readText, byteOf, taskText, doText};
+ghost use Rattle.tell.specs.Names.{targetText, blockOf, readText, byteOf, rangeText, readManyText, statusText, taskText, doText};
 ghost use Rattle.tell.specs.Names.{slotsText, familyText, bitsText, maskText, inventoryText, callText, orderText, nameText};
 
 // ---- labels
@@ -53,21 +54,48 @@ fn put_byte_of(out: &mut [u8], at: usize, s: &[u8], b: u8) -> usize
     put_text(out, p, b" of ")
 }
 
-fn put_task(out: &mut [u8], at: usize, task: Task, p: u8, option: bool) -> usize
+// A first block and a last one.
+fn put_range(out: &mut [u8], at: usize, s: &[u8], p: Params) -> usize
+    ensures { λ r. ⌜ Puts (rangeText (now (s .entry)) p) at (now (out .entry)) (now (out .exit)) r ⌝ }
+{
+    let from = put_word_number(out, at, s, p.first as u64);
+    put_word_number(out, from, b" to ", p.first as u64 + p.second as u64)
+}
+
+fn put_read_many(out: &mut [u8], at: usize, p: Params, option: bool) -> usize
+    ensures { λ r. ⌜ Puts (readManyText p option) at (now (out .entry)) (now (out .exit)) r ⌝ }
+{
+    let blocks = put_range(out, at, b"read blocks ", p);
+    if option {
+        return put_text(out, blocks, b" with locks of ");
+    }
+    put_text(out, blocks, b" of ")
+}
+
+fn put_status(out: &mut [u8], at: usize, p: Params) -> usize
+    ensures { λ r. ⌜ Puts (statusText p) at (now (out .entry)) (now (out .exit)) r ⌝ }
+{
+    let blocks = put_range(out, at, b"status of blocks ", p);
+    put_text(out, blocks, b" of ")
+}
+
+fn put_task(out: &mut [u8], at: usize, task: Task, p: Params, option: bool) -> usize
     ensures { λ r. ⌜ Puts (taskText task p option) at (now (out .entry)) (now (out .exit)) r ⌝ }
 {
     match task {
         Task::Quiet => put_text(out, at, b"quiet "),
-        Task::Read => put_read(out, at, p, option),
-        Task::Write => put_block_of(out, at, b"write block ", p),
-        Task::Lock => put_block_of(out, at, b"lock block ", p),
+        Task::Read => put_read(out, at, p.first, option),
+        Task::Write => put_block_of(out, at, b"write block ", p.first),
+        Task::Lock => put_block_of(out, at, b"lock block ", p.first),
+        Task::ReadMany => put_read_many(out, at, p, option),
         Task::Select => put_text(out, at, b"select "),
         Task::Ready => put_text(out, at, b"ready "),
-        Task::WriteAfi => put_byte_of(out, at, b"write AFI ", p),
+        Task::WriteAfi => put_byte_of(out, at, b"write AFI ", p.first),
         Task::LockAfi => put_text(out, at, b"lock AFI of "),
-        Task::WriteDsfid => put_byte_of(out, at, b"write DSFID ", p),
+        Task::WriteDsfid => put_byte_of(out, at, b"write DSFID ", p.first),
         Task::LockDsfid => put_text(out, at, b"lock DSFID of "),
         Task::Info => put_text(out, at, b"info of "),
+        Task::Status => put_status(out, at, p),
     }
 }
 
@@ -77,7 +105,7 @@ fn put_do(
     to: Target,
     uid: [u8; 8],
     task: Task,
-    p: u8,
+    p: Params,
     option: bool,
 ) -> usize
     ensures { λ r. ⌜ Puts (doText to uid task p option) at (now (out .entry)) (now (out .exit)) r ⌝ }

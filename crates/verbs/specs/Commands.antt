@@ -1,11 +1,14 @@
 -- A command from its word and what stands behind it: FORMAT, "Commands". Assumes nothing.
-use mathlib.Core.Bool.{Bool, true, false}
+use mathlib.Core.Bool.{Bool, true, false, _&&_}
 use mathlib.Core.List.{List, [], _∷_}
-use Prim.Native.Nat.{ℕ}
+use Prim.Native.Nat.{ℕ, _-_}
+use lib.Dec.{leb}
 use lib.ListN.{length, replicate}
 use Rattle.frame.specs.Choose.{if_then_else_}
 use Rattle.request.specs.declared.table.Task.{Task}
 use Rattle.request.specs.declared.table.Task.the-variants as task
+use Rattle.request.specs.Label.{both}
+use Rattle.request.specs.declared.label.Params.{Params}
 use Rattle.request.specs.declared.label.Target.{Target}
 use Rattle.request.specs.declared.label.Target.the-variants.{Everyone}
 use Rattle.request.specs.declared.label.Family.{Family}
@@ -25,6 +28,7 @@ use Rattle.verbs.specs.declared.verb.Verb.{Verb}
 use Rattle.verbs.specs.declared.verb.Verb.the-variants as verb
 use Rattle.verbs.specs.declared.commands.Says.the-variants.{Ask, Wrong}
 use Rattle.verbs.specs.declared.commands.Asked.{Asked}
+use Rattle.verbs.specs.declared.pieces.ByteFound.{ByteFound}
 use Rattle.verbs.specs.Tokens.{isEmpty, wordFrom, textOf}
 use Rattle.verbs.specs.Trouble.{columnOf}
 use Rattle.verbs.specs.Verb.{verbOf}
@@ -56,19 +60,46 @@ opened line at c uid = let next = wordFrom line at in if isEmpty next then wrong
 unfoldable pub labelAsked : List ℕ → ℕ → What → Task → Asked
 labelAsked line at what task =
     let t = targetFrom line at in
-    if t .fine then closed line (t .word .to) w.End (c.Label (t .to) false task 0) (t .uid) else wrongAt (t .word .from) what
+    if t .fine then closed line (t .word .to) w.End (c.Label (t .to) false task (both 0 0)) (t .uid) else wrongAt (t .word .from) what
 
--- `lock` asks for Option
-unfoldable pub lockAsked : List ℕ → ℕ → Task → Target → ℕ → List ℕ → Asked
-lockAsked line at task to p uid =
+-- `lock` asks for Option; else `what` should stand there
+unfoldable pub lockAsked : List ℕ → ℕ → What → Task → Target → Params → List ℕ → Asked
+lockAsked line at what task to p uid =
     if nextIs line at (108 ∷ 111 ∷ 99 ∷ 107 ∷ []) then closed line (wordFrom line at .to) w.End (c.Label to true task p) uid
-    else closed line at w.LockOrEnd (c.Label to false task p) uid
+    else closed line at what (c.Label to false task p) uid
 
--- what may follow a block's number p
+-- a last block, no lower than the first: how many there are behind that
+unfoldable pub lastFrom : List ℕ → ℕ → ℕ → ByteFound
+lastFrom line at first = let n = numberFrom line at in record { fine = n .fine && leb first (n .byte); byte = n .byte - first; word = n .word }
+
+unfoldable pub readTo : List ℕ → ℕ → Target → ℕ → List ℕ → Asked
+readTo line at to first uid =
+    let n = lastFrom line at first in
+    if n .fine then lockAsked line (n .word .to) w.LockOrEnd task.ReadMany to (both first (n .byte)) uid else wrongAt (n .word .from) w.Last
+
+-- a block is read, or with `to` several
+unfoldable pub readAsked : List ℕ → ℕ → Target → ℕ → List ℕ → Asked
+readAsked line at to first uid =
+    if nextIs line at (116 ∷ 111 ∷ []) then readTo line (wordFrom line at .to) to first uid
+    else lockAsked line at w.ToLockOrEnd task.Read to (both first 0) uid
+
+unfoldable pub statusTo : List ℕ → ℕ → Target → ℕ → List ℕ → Asked
+statusTo line at to first uid =
+    let n = lastFrom line at first in
+    if n .fine then closed line (n .word .to) w.End (c.Label to false task.Status (both first (n .byte))) uid else wrongAt (n .word .from) w.Last
+
+-- the lock of a block, or with `to` of several
+unfoldable pub statusAsked : List ℕ → ℕ → Target → ℕ → List ℕ → Asked
+statusAsked line at to first uid =
+    if nextIs line at (116 ∷ 111 ∷ []) then statusTo line (wordFrom line at .to) to first uid
+    else closed line at w.ToOrEnd (c.Label to false task.Status (both first 0)) uid
+
+-- what may follow a block's number n
 unfoldable pub tailAsked : Tail → List ℕ → ℕ → Task → Target → ℕ → List ℕ → Asked
-tailAsked tail.Nothing line at task to p uid = closed line at w.End (c.Label to false task p) uid
-tailAsked tail.Lock line at task to p uid = lockAsked line at task to p uid
-tailAsked tail.Data line at task to p uid = opened line at (c.Label to false task p) uid
+tailAsked tail.Nothing line at task to n uid = closed line at w.End (c.Label to false task (both n 0)) uid
+tailAsked tail.Read line at task to n uid = readAsked line at to n uid
+tailAsked tail.Status line at task to n uid = statusAsked line at to n uid
+tailAsked tail.Data line at task to n uid = opened line at (c.Label to false task (both n 0)) uid
 
 -- a task, its target and a block's number
 unfoldable pub blockOf : List ℕ → ℕ → Task → Tail → Target → List ℕ → Asked
@@ -85,8 +116,8 @@ blockAsked line at task behind =
 unfoldable pub fieldOf : List ℕ → ℕ → Task → Task → Target → List ℕ → Asked
 fieldOf line at write lock to uid =
     let b = byteFrom line at in
-    if b .fine then closed line (b .word .to) w.End (c.Label to false write (b .byte)) uid
-    else if nextIs line at (108 ∷ 111 ∷ 99 ∷ 107 ∷ []) then closed line (b .word .to) w.End (c.Label to false lock 0) uid
+    if b .fine then closed line (b .word .to) w.End (c.Label to false write (both (b .byte) 0)) uid
+    else if nextIs line at (108 ∷ 111 ∷ 99 ∷ 107 ∷ []) then closed line (b .word .to) w.End (c.Label to false lock (both 0 0)) uid
     else wrongAt (b .word .from) w.ByteOrLock
 
 unfoldable pub fieldAsked : List ℕ → ℕ → Task → Task → Asked

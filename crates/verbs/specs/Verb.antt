@@ -39,11 +39,12 @@ labelVerb s =
     else if sameWord s (105 ∷ 110 ∷ 102 ∷ 111 ∷ []) then Label task.Info
     else pieceVerb s
 
--- an Inventory, and the blocks of a label: inventory, read, write, lock
+-- an Inventory, and the blocks of a label: inventory, read, write, lock, status
 unfoldable pub verbOf : List ℕ → Verb
 verbOf s =
     if sameWord s (105 ∷ 110 ∷ 118 ∷ 101 ∷ 110 ∷ 116 ∷ 111 ∷ 114 ∷ 121 ∷ []) then Inventory
-    else if sameWord s (114 ∷ 101 ∷ 97 ∷ 100 ∷ []) then Block task.Read tail.Lock
+    else if sameWord s (114 ∷ 101 ∷ 97 ∷ 100 ∷ []) then Block task.Read tail.Read
     else if sameWord s (119 ∷ 114 ∷ 105 ∷ 116 ∷ 101 ∷ []) then Block task.Write tail.Data
     else if sameWord s (108 ∷ 111 ∷ 99 ∷ 107 ∷ []) then Block task.Lock tail.Nothing
+    else if sameWord s (115 ∷ 116 ∷ 97 ∷ 116 ∷ 117 ∷ 115 ∷ []) then Block task.Status tail.Status
     else labelVerb s

@@ -1,4 +1,5 @@
 // A command from its word and what stands behind it.
+use crate::pieces::ByteFound;
 use crate::pieces::byte_from;
 use crate::pieces::mask_from;
 use crate::pieces::next_is;
@@ -17,10 +18,13 @@ use crate::verb::verb_of;
 use reader::command::ChipTask;
 use reader::command::Command;
 use request::label::Family;
+use request::label::Params;
 use request::label::Target;
 use request::table::Task;
 ghost use mathlib.Core.Path.{_≡_};
-ghost use Rattle.verbs.specs.Commands.{asked, wrongAt, closed, opened, labelAsked, tailAsked, lockAsked, blockOf, blockAsked, fieldOf, fieldAsked};
+ghost use Rattle.request.specs.Label.{both};
+ghost use Rattle.verbs.specs.Commands.{asked, wrongAt, closed, opened, labelAsked, lockAsked, lastFrom, readTo, readAsked, statusTo, statusAsked};
+ghost use Rattle.verbs.specs.Commands.{tailAsked, blockOf, blockAsked, fieldOf, fieldAsked};
 ghost use Rattle.verbs.specs.Commands.{chipAsked, selectAsked, countedBy, countedAsked, inventoryEnd, maskOf, maskAsked, familyOf, familyAsked};
 ghost use Rattle.verbs.specs.Commands.{inventoryAsked, verbAsked, lineAsked};
 
@@ -92,27 +96,32 @@ fn label(line: &[u8], at: usize, what: What, task: Task) -> Asked
             line,
             word.to,
             What::End,
-            Command::Label(to, false, task, 0),
+            Command::Label(
+                to,
+                false,
+                task,
+                Params {
+                    first: 0,
+                    second: 0,
+                },
+            ),
             uid,
         );
     }
     wrong(word.from, what)
 }
 
-// A block's task from behind its number on.
-fn tail(line: &[u8], at: usize, tail: Tail, task: Task, to: Target, p: u8, uid: [u8; 8]) -> Asked
-    ensures { λ r. ⌜ r ≡ tailAsked tail (now (line .entry)) at task to p uid ⌝ }
-{
-    match tail {
-        Tail::Nothing => close(line, at, What::End, Command::Label(to, false, task, p), uid),
-        Tail::Lock => locked(line, at, task, to, p, uid),
-        Tail::Data => open(line, at, Command::Label(to, false, task, p), uid),
-    }
-}
-
-// `lock` asks for Option.
-fn locked(line: &[u8], at: usize, task: Task, to: Target, p: u8, uid: [u8; 8]) -> Asked
-    ensures { λ r. ⌜ r ≡ lockAsked (now (line .entry)) at task to p uid ⌝ }
+// `lock` asks for Option; where something else stands, `what` should.
+fn locked(
+    line: &[u8],
+    at: usize,
+    what: What,
+    task: Task,
+    to: Target,
+    p: Params,
+    uid: [u8; 8],
+) -> Asked
+    ensures { λ r. ⌜ r ≡ lockAsked (now (line .entry)) at what task to p uid ⌝ }
 {
     if next_is(line, at, b"lock") {
         let w = word_from(line, at);
@@ -124,13 +133,151 @@ fn locked(line: &[u8], at: usize, task: Task, to: Target, p: u8, uid: [u8; 8]) -
             uid,
         );
     }
+    close(line, at, what, Command::Label(to, false, task, p), uid)
+}
+
+// A last block, no lower than the first: how many there are behind that.
+fn last_from(line: &[u8], at: usize, first: u8) -> ByteFound
+    ensures { λ r. ⌜ r ≡ lastFrom (now (line .entry)) at first ⌝ }
+{
+    let n = number_from(line, at);
+    let word = n.word;
+    if n.byte < first {
+        return ByteFound {
+            fine: false,
+            byte: 0,
+            word,
+        };
+    }
+    ByteFound {
+        fine: n.fine,
+        byte: n.byte - first,
+        word,
+    }
+}
+
+// Blocks are read up to a last one.
+fn read_to(line: &[u8], at: usize, to: Target, first: u8, uid: [u8; 8]) -> Asked
+    ensures { λ r. ⌜ r ≡ readTo (now (line .entry)) at to first uid ⌝ }
+{
+    let n = last_from(line, at, first);
+    let word = n.word;
+    if n.fine {
+        let p = Params {
+            first: first,
+            second: n.byte,
+        };
+        return locked(line, word.to, What::LockOrEnd, Task::ReadMany, to, p, uid);
+    }
+    wrong(word.from, What::Last)
+}
+
+// A block is read, or with `to` several.
+fn read(line: &[u8], at: usize, to: Target, first: u8, uid: [u8; 8]) -> Asked
+    ensures { λ r. ⌜ r ≡ readAsked (now (line .entry)) at to first uid ⌝ }
+{
+    if next_is(line, at, b"to") {
+        let w = word_from(line, at);
+        return read_to(line, w.to, to, first, uid);
+    }
+    locked(
+        line,
+        at,
+        What::ToLockOrEnd,
+        Task::Read,
+        to,
+        Params {
+            first: first,
+            second: 0,
+        },
+        uid,
+    )
+}
+
+// The locks of blocks up to a last one.
+fn status_to(line: &[u8], at: usize, to: Target, first: u8, uid: [u8; 8]) -> Asked
+    ensures { λ r. ⌜ r ≡ statusTo (now (line .entry)) at to first uid ⌝ }
+{
+    let n = last_from(line, at, first);
+    let word = n.word;
+    if n.fine {
+        let p = Params {
+            first: first,
+            second: n.byte,
+        };
+        return close(
+            line,
+            word.to,
+            What::End,
+            Command::Label(to, false, Task::Status, p),
+            uid,
+        );
+    }
+    wrong(word.from, What::Last)
+}
+
+// The lock of a block, or with `to` of several.
+fn status(line: &[u8], at: usize, to: Target, first: u8, uid: [u8; 8]) -> Asked
+    ensures { λ r. ⌜ r ≡ statusAsked (now (line .entry)) at to first uid ⌝ }
+{
+    if next_is(line, at, b"to") {
+        let w = word_from(line, at);
+        return status_to(line, w.to, to, first, uid);
+    }
     close(
         line,
         at,
-        What::LockOrEnd,
-        Command::Label(to, false, task, p),
+        What::ToOrEnd,
+        Command::Label(
+            to,
+            false,
+            Task::Status,
+            Params {
+                first: first,
+                second: 0,
+            },
+        ),
         uid,
     )
+}
+
+// A block's task from behind its number on.
+fn tail(line: &[u8], at: usize, tail: Tail, task: Task, to: Target, n: u8, uid: [u8; 8]) -> Asked
+    ensures { λ r. ⌜ r ≡ tailAsked tail (now (line .entry)) at task to n uid ⌝ }
+{
+    match tail {
+        Tail::Nothing => close(
+            line,
+            at,
+            What::End,
+            Command::Label(
+                to,
+                false,
+                task,
+                Params {
+                    first: n,
+                    second: 0,
+                },
+            ),
+            uid,
+        ),
+        Tail::Read => read(line, at, to, n, uid),
+        Tail::Status => status(line, at, to, n, uid),
+        Tail::Data => open(
+            line,
+            at,
+            Command::Label(
+                to,
+                false,
+                task,
+                Params {
+                    first: n,
+                    second: 0,
+                },
+            ),
+            uid,
+        ),
+    }
 }
 
 fn block_of(line: &[u8], at: usize, task: Task, behind: Tail, to: Target, uid: [u8; 8]) -> Asked
@@ -167,7 +314,15 @@ fn field_of(line: &[u8], at: usize, write: Task, lock: Task, to: Target, uid: [u
             line,
             word.to,
             What::End,
-            Command::Label(to, false, write, b.byte),
+            Command::Label(
+                to,
+                false,
+                write,
+                Params {
+                    first: b.byte,
+                    second: 0,
+                },
+            ),
             uid,
         );
     }
@@ -176,7 +331,15 @@ fn field_of(line: &[u8], at: usize, write: Task, lock: Task, to: Target, uid: [u
             line,
             word.to,
             What::End,
-            Command::Label(to, false, lock, 0),
+            Command::Label(
+                to,
+                false,
+                lock,
+                Params {
+                    first: 0,
+                    second: 0,
+                },
+            ),
             uid,
         );
     }

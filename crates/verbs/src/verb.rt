@@ -5,10 +5,14 @@ use text::words::same_word;
 ghost use mathlib.Core.Path.{_≡_};
 ghost use Rattle.verbs.specs.Verb.{chipVerb, pieceVerb, labelVerb, verbOf};
 
-// What may follow a block's number: nothing, `lock`, or the bytes to be written.
+// What may follow a block's number.
 pub enum Tail {
     Nothing,
-    Lock,
+    // The last of several blocks, and `lock`.
+    Read,
+    // The last of several blocks.
+    Status,
+    // The bytes to be written.
     Data,
 }
 
@@ -105,13 +109,16 @@ pub fn verb_of(word: &[u8]) -> Verb
         return Verb::Inventory;
     }
     if same_word(word, b"read") {
-        return Verb::Block(Task::Read, Tail::Lock);
+        return Verb::Block(Task::Read, Tail::Read);
     }
     if same_word(word, b"write") {
         return Verb::Block(Task::Write, Tail::Data);
     }
     if same_word(word, b"lock") {
         return Verb::Block(Task::Lock, Tail::Nothing);
+    }
+    if same_word(word, b"status") {
+        return Verb::Block(Task::Status, Tail::Status);
     }
     label_verb(word)
 }

@@ -19,6 +19,7 @@ label-command-spec =
     (λ c. search needs)
     (λ c. search needs)
     (λ c κs. search needs)
+    (λ c κs. search needs)
     (λ c. search ways)
     (λ c. search ways)
     (λ c. search ways)

@@ -22,5 +22,8 @@ verb-of-spec =
     (λ c. search needs)
     (λ c κs. search needs)
     (λ c. search ladder depth 12)
+    (λ c. search needs)
+    (λ c κs. search needs)
+    (λ c. search ladder depth 12)
     (λ c κs. search needs)
     (λ c. search ladder depth 12))
