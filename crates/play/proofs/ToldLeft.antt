@@ -1,5 +1,5 @@
 -- What an event leaves and what is said of it, from what the calls tell. Assumes nothing.
-use mathlib.Core.Path.{_≡_, refl, ap, ap₂, sym, subst, _∙_}
+use mathlib.Core.Path.{_≡_, refl, ap, ap₂, _∙_}
 use mathlib.Core.Bool.{Bool, true, false}
 use mathlib.Core.List.{List, []}
 use Prim.Native.Nat.{ℕ, _-_, _≤_}
@@ -17,7 +17,7 @@ use Rattle.request.specs.Signal.{signalOf}
 use Rattle.request.specs.declared.signal.Signal.{Signal}
 use Rattle.rack.specs.declared.event.Report.{Report}
 use Rattle.rack.specs.Facts.{RackFine}
-use Rattle.rack.specs.Event.{Outcome, carrying, least, eventOf, Replied}
+use Rattle.rack.specs.Event.{carrying, least, eventOf, Replied}
 use Rattle.rack.proofs.FileVerdict.{rack-fine, most-bytes}
 use Rattle.rack.proofs.EventOutcomes.{fine-number}
 use Rattle.rack.proofs.Floor.{left-fine}
@@ -29,8 +29,9 @@ use Rattle.trace.specs.Owners.{ownersText}
 use Rattle.trace.specs.Words.{whyText}
 use Rattle.trace.proofs.CalmChanges.{calm-changes, only-owner}
 use Rattle.script.specs.Lines.{drawsFor}
-use Rattle.play.specs.Facts.{Unchanged}
+use Rattle.play.specs.Facts.{Unchanged, Room}
 use Rattle.play.specs.Told.{drawsOf, outcomeOf, left, besideReply, behindReply, meaningRoom, toldText, eventText, Played}
+use Rattle.play.proofs.ToldAny.{Alike, event-alike, quiet-alike, told-alike}
 
 -- ---- beside a reply, by how many answered
 
@@ -65,9 +66,15 @@ kept tags {old} ok h p =
     let m = most-bytes tags (fine-number tags ok) in
     puts-front p ∙ take-all (length old) tags (omega arith)
 
+-- buffers of the same lengths have the same room
+pub room-stays : {old answer meaning old₁ answer₁ meaning₁ : List ℕ} → Room old answer meaning → length old₁ ≡ length old
+    → length answer₁ ≡ length answer → length meaning₁ ≡ length meaning → Room old₁ answer₁ meaning₁
+room-stays h p q r = record { rack = rw p (h .rack); reply = rw q (h .reply); meant = r ∙ h .meant }
+
 -- a meaning that was laid into its buffer, read from there
-pub meaning-laid : {s meaning t : List ℕ} {m : ℕ} → Puts s 0 (replicate meaningRoom 0) meaning m → t ≡ part 0 m meaning → t ≡ take meaningRoom s
-meaning-laid {s} p e = e ∙ puts-front p ∙ ap (λ (k : ℕ). take k s) (length-replicate {A = ℕ} meaningRoom 0)
+pub meaning-laid : {s meaning meaning₁ t : List ℕ} {m : ℕ} → length meaning ≡ meaningRoom → Puts s 0 meaning meaning₁ m → t ≡ part 0 m meaning₁
+    → t ≡ take meaningRoom s
+meaning-laid {s} h p e = e ∙ puts-front p ∙ ap (λ (k : ℕ). take k s) h
 
 -- the line of a reply, and what a frame changed behind it
 pub told-laid : (n number : ℕ) (f ds old new answer : List ℕ) (report : Report) {s : Signal} {t : List ℕ} {at p q : ℕ} {out out₁ out₂ : List ℕ}
@@ -82,54 +89,49 @@ module _ (tags frame draws : List ℕ) (number k : ℕ) (e : k ≡ drawsFor (get
   lent : take (k - 0) draws ≡ drawsOf tags draws
   lent = ap (λ (m : ℕ). take m draws) (sub-zero k ∙ e)
 
-  module _ {report : Report} {tags₁ answer : List ℕ}
-      (p : Replied tags number frame (take (k - 0) draws) (replicate least 0) report tags₁ answer) where
-    is-left : left report tags₁ answer ≡ outcomeOf tags number frame draws
+  module _ {answer : List ℕ} (room : least ≤ length answer) {report : Report} {tags₁ answer₁ : List ℕ}
+      (p : Replied tags number frame (take (k - 0) draws) answer report tags₁ answer₁) where
+    -- in a buffer of zeros it would be the same
+    is-left : Alike (left report tags₁ answer₁) (outcomeOf tags number frame draws)
     unfolding outcomeOf
     is-left =
-        let whole : left report tags₁ answer ≡ eventOf tags number frame (take (k - 0) draws) (replicate least 0) =
-        rw (p .reports, p .leaves, p .writes) refl in
-        whole ∙ ap (λ (ds : List ℕ). eventOf tags number frame ds (replicate least 0)) lent
+        let whole : left report tags₁ answer₁ ≡ eventOf tags number frame (take (k - 0) draws) answer = rw (p .reports, p .leaves, p .writes) refl in
+        let zeros : least ≤ length {A = ℕ} (replicate least 0) = rw (length-replicate {A = ℕ} least 0) (omega arith) in
+        rw (whole, lent) (event-alike tags number frame (drawsOf tags draws) answer (replicate least 0) room zeros)
 
     pub fine-left : RackFine tags → Bytes tags → Bytes frame → Bytes draws → RackFine tags₁
     fine-left ok bt bf bd =
-        rw (p .leaves)
-        (rack-fine _ (left-fine tags ok number frame (take (k - 0) draws) (replicate least 0) bt bf (bytes-part 0 (k - 0) draws bd)))
+        rw (p .leaves) (rack-fine _ (left-fine tags ok number frame (take (k - 0) draws) answer bt bf (bytes-part 0 (k - 0) draws bd)))
 
     -- what put_told asks, of the rack as it was
     pub unchanged-left : RackFine tags → (old : List ℕ) → old ≡ tags → Unchanged number (signalOf number frame .label) old tags₁
     unchanged-left ok old q = rw (q, p .leaves) (record { calm = calm; only = only })
       where
         behind : ℕ → List ℕ
-        behind m = eventOf tags m frame (take (k - 0) draws) (replicate least 0) .rack
+        behind m = eventOf tags m frame (take (k - 0) draws) answer .rack
 
         calm : number ≡ 3 → calmCall (signalOf number frame .label .call) ≡ true → changesText tags (behind number) ≡ []
-        calm e h = rw e (calm-changes tags ok frame (take (k - 0) draws) (rw e at h) (replicate least 0))
+        calm e h = rw e (calm-changes tags ok frame (take (k - 0) draws) (rw e at h) answer)
 
         only : number ≡ 3 → Only (oneCall (signalOf number frame .label .call)) (signalOf number frame .label .uid) tags (behind number)
-        only e = rw e (only-owner tags ok frame (take (k - 0) draws) (replicate least 0))
-
-    rack-left : tags₁ ≡ outcomeOf tags number frame draws .rack
-    rack-left = ap (λ (o : Outcome). o .rack) is-left
+        only e = rw e (only-owner tags ok frame (take (k - 0) draws) answer)
 
     module _ (n : ℕ) (fine : RackFine tags₁) {at : ℕ} {out out₁ : List ℕ} {r : ℕ} where
-      pub played-quietly : Puts (quietText n number report answer) at out out₁ r → Played true n number frame draws tags at out tags₁ out₁ r
+      pub played-quietly : Puts (quietText n number report answer₁) at out out₁ r → Played true n number frame draws tags at out tags₁ out₁ r
       unfolding eventText
-      played-quietly g =
-          record { rack = rack-left; fine = fine; text = puts-by g (ap (λ (o : Outcome). quietText n number (o .report) (o .out)) is-left) }
+      played-quietly g = record { rack = is-left .racks; fine = fine; text = puts-by g (quiet-alike n number is-left) }
 
-      pub played-told : {old : List ℕ} → old ≡ tags → Puts (toldText n number frame (take (k - 0) draws) old (left report tags₁ answer)) at out out₁ r
+      pub played-told : {old : List ℕ} → old ≡ tags → Puts (toldText n number frame (take (k - 0) draws) old (left report tags₁ answer₁)) at out out₁ r
           → Played false n number frame draws tags at out tags₁ out₁ r
       unfolding eventText
       played-told {old} q g =
           record {
-            rack = rack-left;
+            rack = is-left .racks;
             fine = fine;
             text =
                 puts-by g
-                (ap (λ (ds : List ℕ). toldText n number frame ds old (left report tags₁ answer)) lent
-                ∙ ap (λ (r₀ : List ℕ). toldText n number frame (drawsOf tags draws) r₀ (left report tags₁ answer)) q
-                ∙ ap (toldText n number frame (drawsOf tags draws) tags) is-left);
+                (ap₂ (λ (ds r₀ : List ℕ). toldText n number frame ds r₀ (left report tags₁ answer₁)) lent q
+                ∙ told-alike n number is-left frame (drawsOf tags draws) tags);
           }
 
 -- told or not

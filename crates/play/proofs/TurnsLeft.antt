@@ -26,10 +26,13 @@ module _ (line draws bytes tags : List ℕ) {action : Action} {d b : List ℕ}
       let y = effectOf line draws bytes in
       let whole : effect x d b ≡ y = rw (sym g ∙ h .0, h .1 .0, h .1 .1) refl in
       record {
-        rack = subst (λ (z : Effect). tags₁ ≡ rackBy (z .action) (z .draws) (z .bytes) tags) whole f;
+        leaves =
+            record {
+              rack = subst (λ (z : Effect). tags₁ ≡ rackBy (z .action) (z .draws) (z .bytes) tags) whole f;
+              drawn = subst (λ (z : Effect). DrawsBy (z .action) (z .draws) draws₁) whole k;
+              read = h .1 .1;
+            };
         fine = ok;
-        drawn = subst (λ (z : Effect). DrawsBy (z .action) (z .draws) draws₁) whole k;
-        read = h .1 .1;
         text = puts-by p (ap (λ (z : Effect). textBy (z .action) quiet n (z .draws) (z .bytes) tags draws₁) whole);
       }
 

@@ -48,7 +48,7 @@ behindReply number old new = if eqb number 3 then changesText old new else if eq
 
 -- more than any meaning has
 abbrev pub meaningRoom : ℕ
-meaningRoom = 2048
+meaningRoom = 10240
 
 unfoldable pub toldText : ℕ → ℕ → List ℕ → List ℕ → List ℕ → Outcome → List ℕ
 toldText n number frame draws old o =

@@ -62,13 +62,20 @@ turnText Line n said = said
 turnText Long n said = longText n
 turnText End n said = []
 
--- what it leaves of tags, draws and bytes, and the text that it lays from a place on
-pub record Turned (quiet : Bool) (n : ℕ) (reached : Reached) (line tags draws bytes : List ℕ) (at : ℕ) (out tags₁ draws₁ bytes₁ out₁ : List ℕ) (r : ℕ) :
-    Type 0 where
+-- all that is said of it
+abbrev pub turnSaid : Bool → ℕ → Reached → List ℕ → List ℕ → List ℕ → List ℕ → List ℕ → List ℕ
+turnSaid quiet n reached line tags draws bytes draws₁ =
+    let x = turnEffect reached line draws bytes in turnText reached n (textBy (x .action) quiet n (x .draws) (x .bytes) tags draws₁)
+
+-- what it leaves of tags, draws and bytes
+pub record Leaves (reached : Reached) (line tags draws bytes tags₁ draws₁ bytes₁ : List ℕ) : Type 0 where
   pub rack : let x = turnEffect reached line draws bytes in tags₁ ≡ rackBy (x .action) (x .draws) (x .bytes) tags
-  pub fine : RackFine tags₁
   pub drawn : let x = turnEffect reached line draws bytes in DrawsBy (x .action) (x .draws) draws₁
   pub read : bytes₁ ≡ turnEffect reached line draws bytes .bytes
-  pub text :
-      let x = turnEffect reached line draws bytes in
-      Puts (turnText reached n (textBy (x .action) quiet n (x .draws) (x .bytes) tags draws₁)) at out out₁ r
+
+-- what the call promises: what is left, and the text, laid from a place on
+pub record Turned (quiet : Bool) (n : ℕ) (reached : Reached) (line tags draws bytes : List ℕ) (at : ℕ) (out tags₁ draws₁ bytes₁ out₁ : List ℕ) (r : ℕ) :
+    Type 0 where
+  pub leaves : Leaves reached line tags draws bytes tags₁ draws₁ bytes₁
+  pub fine : RackFine tags₁
+  pub text : Puts (turnSaid quiet n reached line tags draws bytes draws₁) at out out₁ r

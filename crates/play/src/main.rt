@@ -1,107 +1,25 @@
 // play [-q] RACK [NEXT]: plays a rack over the lines on standard input, tells what comes of each, and writes the rack left to NEXT; -q: replies alone.
+mod session;
 mod told;
 mod turns;
 
-use crate::turns::turn;
+use crate::session::play_lines;
+use crate::told::MEANING;
 use frame::verdict::Verdict;
 use libc::STDERR_FILENO;
 use libc::STDIN_FILENO;
 use print::put::put_text;
 use print::say::say;
+use rack::event::LEAST;
 use rack::file::judge;
 use sheet::refusal::put_refusal;
 use tell::meaning::part_of;
 use text::file::load;
-use text::lines::Source;
-use text::lines::at_hand;
-use text::lines::is_end;
-use text::lines::next;
 use text::lines::source_of;
-use text::mark::after_mark;
 use text::save::save;
-ghost use Prim.Native.Nat.{_≤_};
-ghost use lib.ListN.{length};
 ghost use Rattle.rack.specs.Facts.{RackFine};
 
-// Where line n starts: only the first may have a mark.
-fn start(n: u64, line: &[u8]) -> usize
-    ensures { λ r. ⌜ r ≤ length (now (line .entry)) ⌝ }
-{
-    if n == 1 {
-        return after_mark(line);
-    }
-    0
-}
-
-// Whether all output so far was written, and where the text that is still to be written ends.
-struct Kept {
-    fine: bool,
-    at: usize,
-}
-
-// What was said goes out before the next line has to be waited for, and before its room grows short: one line says at most half of it.
-fn hand_out(source: Source, buf: &[u8], out: &[u8], at: usize) -> Kept {
-    if at <= out.len() / 2 {
-        if at_hand(source, buf) {
-            return Kept { fine: true, at: at };
-        }
-    }
-    Kept {
-        fine: say(part_of(out, 0, at)),
-        at: 0,
-    }
-}
-
-// Plays every line of standard input: at most 2^62 turns, which no input outlasts. Whether all output was written; if not, it stops there.
-fn play_lines(
-    quiet: bool,
-    tags: &mut [u8],
-    buf: &mut [u8],
-    draws: &mut [u8],
-    bytes: &mut [u8],
-    old: &mut [u8],
-    out: &mut [u8],
-) -> bool
-    requires { ⌜ RackFine (now tags) × (65536 ≤ length (now old)) ⌝ }
-{
-    let mut source = source_of(STDIN_FILENO);
-    let mut n: u64 = 0;
-    let mut at = 0;
-    let mut left: u64 = 4611686018427387904;
-    while 0 < left {
-        left -= 1;
-        let kept = hand_out(source, buf, out, at);
-        if !kept.fine {
-            return false;
-        }
-        let got = next(source, buf);
-        let reached = got.reached;
-        if is_end(reached) {
-            return say(part_of(out, 0, kept.at));
-        }
-        n = std::num::wrapping_add_u64(n, 1);
-        let from = got.from;
-        let to = got.to;
-        let first = from + start(n, &buf[from..to]);
-        at = turn(
-            quiet,
-            reached,
-            &buf[first..to],
-            n,
-            tags,
-            draws,
-            bytes,
-            old,
-            out,
-            kept.at,
-        );
-        let s = got.source;
-        source = s;
-    }
-    true
-}
-
-// A line of less than 262,144 bytes has less than 131,072 bytes in hex.
+// A line of less than 262,144 bytes has less than 131,072 bytes in hex. All buffers are made here, once: some are long, and lines are many.
 fn play_all(quiet: bool, tags: &mut [u8]) -> bool
     requires { ⌜ RackFine (now tags) ⌝ }
 {
@@ -109,14 +27,19 @@ fn play_all(quiet: bool, tags: &mut [u8]) -> bool
     let mut bytes = [0u8; 131072];
     let mut draws = [0u8; 64];
     let mut old = [0u8; 65536];
+    let mut answer = [0u8; LEAST];
+    let mut meaning = [0u8; MEANING];
     let mut out = [0u8; 131072];
     play_lines(
         quiet,
-        tags,
+        source_of(STDIN_FILENO),
         &mut buf,
+        tags,
         &mut draws,
         &mut bytes,
         &mut old,
+        &mut answer,
+        &mut meaning,
         &mut out,
     )
 }

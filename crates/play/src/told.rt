@@ -1,7 +1,6 @@
 // An event played, and what is said of it.
 use print::put::put_nothing;
 use print::put::put_text;
-use rack::event::LEAST;
 use rack::event::Report;
 use rack::event::event_on;
 use request::label::Request;
@@ -18,16 +17,18 @@ use trace::changes::put_changes;
 use trace::owners::put_owners;
 use trace::why::put_why;
 ghost use mathlib.Core.Bool.{true, false};
+ghost use mathlib.Core.Path.{_≡_};
 ghost use Prim.Native.Nat.{_≤_};
 ghost use lib.ListN.{length};
 ghost use Rattle.print.specs.Puts.{Puts};
 ghost use Rattle.request.specs.Signal.{signalOf};
+ghost use Rattle.rack.specs.Event.{least};
 ghost use Rattle.rack.specs.Facts.{RackFine};
-ghost use Rattle.play.specs.Facts.{Unchanged};
-ghost use Rattle.play.specs.Told.{left, besideReply, behindReply, toldText, Played};
+ghost use Rattle.play.specs.Facts.{Unchanged, Room};
+ghost use Rattle.play.specs.Told.{left, besideReply, behindReply, meaningRoom, toldText, Played};
 
 // More than any meaning has.
-const MEANING: usize = 2048;
+pub const MEANING: usize = 10240;
 
 // What an answer that was alone means, why nobody answered, or who did.
 fn put_beside(
@@ -82,7 +83,7 @@ fn put_behind(
     put_nothing(out, at)
 }
 
-// The line of a reply with what it means, and the lines of what changed.
+// The line of a reply with what it means, and the lines of what changed. The meaning is laid by itself first.
 fn put_told(
     out: &mut [u8],
     at: usize,
@@ -94,23 +95,15 @@ fn put_told(
     answer: &[u8],
     old: &[u8],
     tags: &[u8],
+    meaning: &mut [u8],
 ) -> usize
     requires { ⌜ RackFine (now old) × RackFine (now tags) ⌝ }
     requires { ⌜ Unchanged number (signalOf number (now frame) .label) (now old) (now tags) ⌝ }
+    requires { ⌜ length (now meaning) ≡ meaningRoom ⌝ }
     ensures { λ r. ⌜ Puts (toldText n number (now (frame .entry)) (now (draws .entry)) (now (old .entry))
         (left report (now (tags .entry)) (now (answer .entry)))) at (now (out .entry)) (now (out .exit)) r ⌝ }
 {
-    let mut meaning = [0u8; MEANING];
-    let m = put_beside(
-        &mut meaning,
-        number,
-        frame,
-        draws,
-        report,
-        answer,
-        old,
-        tags,
-    );
+    let m = put_beside(meaning, number, frame, draws, report, answer, old, tags);
     let signal = hear(number, frame);
     let p = put_line(
         out,
@@ -120,13 +113,13 @@ fn put_told(
         signal,
         report,
         answer,
-        part_of(&meaning, 0, m),
+        part_of(meaning, 0, m),
     );
     let request = signal.label;
     put_behind(out, p, number, request, old, tags)
 }
 
-// Plays the event that line n asks, and lays all that is said of it; the rack as it was is kept in `old`.
+// Plays the event that line n asks, and lays all that is said of it; the rack as it was is kept in `old`. What stood in the buffers before does not matter.
 fn play_told(
     n: u64,
     number: u8,
@@ -134,17 +127,18 @@ fn play_told(
     tags: &mut [u8],
     draws: &[u8],
     old: &mut [u8],
+    answer: &mut [u8],
+    meaning: &mut [u8],
     out: &mut [u8],
     at: usize,
 ) -> usize
-    requires { ⌜ RackFine (now tags) × (65536 ≤ length (now old)) ⌝ }
+    requires { ⌜ RackFine (now tags) × Room (now old) (now answer) (now meaning) ⌝ }
     ensures { λ r. ⌜ Played false n number (now (frame .entry)) (now (draws .entry)) (now (tags .entry)) at (now (out .entry)) (now (tags .exit))
         (now (out .exit)) r ⌝ }
 {
-    let mut answer = [0u8; LEAST];
     let len = put_text(old, 0, tags);
     let k = draws_for(tags, draws.len());
-    let report = event_on(tags, number, frame, &draws[0..k], &mut answer);
+    let report = event_on(tags, number, frame, &draws[0..k], answer);
     put_told(
         out,
         at,
@@ -153,9 +147,10 @@ fn play_told(
         frame,
         &draws[0..k],
         report,
-        &answer,
+        answer,
         part_of(old, 0, len),
         tags,
+        meaning,
     )
 }
 
@@ -166,17 +161,17 @@ fn play_quietly(
     frame: &[u8],
     tags: &mut [u8],
     draws: &[u8],
+    answer: &mut [u8],
     out: &mut [u8],
     at: usize,
 ) -> usize
-    requires { ⌜ RackFine (now tags) ⌝ }
+    requires { ⌜ RackFine (now tags) × (least ≤ length (now answer)) ⌝ }
     ensures { λ r. ⌜ Played true n number (now (frame .entry)) (now (draws .entry)) (now (tags .entry)) at (now (out .entry)) (now (tags .exit))
         (now (out .exit)) r ⌝ }
 {
-    let mut answer = [0u8; LEAST];
     let k = draws_for(tags, draws.len());
-    let report = event_on(tags, number, frame, &draws[0..k], &mut answer);
-    put_quiet(out, at, n, number, report, &answer)
+    let report = event_on(tags, number, frame, &draws[0..k], answer);
+    put_quiet(out, at, n, number, report, answer)
 }
 
 pub fn play_event(
@@ -187,15 +182,17 @@ pub fn play_event(
     tags: &mut [u8],
     draws: &[u8],
     old: &mut [u8],
+    answer: &mut [u8],
+    meaning: &mut [u8],
     out: &mut [u8],
     at: usize,
 ) -> usize
-    requires { ⌜ RackFine (now tags) × (65536 ≤ length (now old)) ⌝ }
+    requires { ⌜ RackFine (now tags) × Room (now old) (now answer) (now meaning) ⌝ }
     ensures { λ r. ⌜ Played quiet n number (now (frame .entry)) (now (draws .entry)) (now (tags .entry)) at (now (out .entry)) (now (tags .exit))
         (now (out .exit)) r ⌝ }
 {
     if quiet {
-        return play_quietly(n, number, frame, tags, draws, out, at);
+        return play_quietly(n, number, frame, tags, draws, answer, out, at);
     }
-    play_told(n, number, frame, tags, draws, old, out, at)
+    play_told(n, number, frame, tags, draws, old, answer, meaning, out, at)
 }

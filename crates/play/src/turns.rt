@@ -10,11 +10,10 @@ use script::lines::action_of;
 use text::lines::Reached;
 use verbs::trouble::Trouble;
 use verbs::trouble::put_trouble;
-ghost use Prim.Native.Nat.{_≤_};
-ghost use lib.ListN.{length};
 ghost use Rattle.print.specs.Puts.{Puts};
 ghost use Rattle.rack.specs.Facts.{RackFine};
 ghost use Rattle.text.specs.declared.lines.Reached.the-variants.{Line};
+ghost use Rattle.play.specs.Facts.{Room};
 ghost use Rattle.play.specs.Turns.{wrongText, longText, drawsText, Turned};
 
 // Line n cannot be read.
@@ -60,10 +59,12 @@ fn play_line(
     draws: &mut [u8],
     bytes: &mut [u8],
     old: &mut [u8],
+    answer: &mut [u8],
+    meaning: &mut [u8],
     out: &mut [u8],
     at: usize,
 ) -> usize
-    requires { ⌜ RackFine (now tags) × (65536 ≤ length (now old)) ⌝ }
+    requires { ⌜ RackFine (now tags) × Room (now old) (now answer) (now meaning) ⌝ }
     ensures { λ r. ⌜ Turned quiet n Line (now (line .entry)) (now (tags .entry)) (now (draws .entry)) (now (bytes .entry)) at (now (out .entry))
         (now (tags .exit)) (now (draws .exit)) (now (bytes .exit)) (now (out .exit)) r ⌝ }
 {
@@ -71,7 +72,19 @@ fn play_line(
     match action {
         Action::Nothing => put_nothing(out, at),
         Action::Play(number, len) => {
-            play_event(quiet, n, number, &bytes[0..len], tags, draws, old, out, at)
+            play_event(
+                quiet,
+                n,
+                number,
+                &bytes[0..len],
+                tags,
+                draws,
+                old,
+                answer,
+                meaning,
+                out,
+                at,
+            )
         }
         Action::Random => {
             draw(draws);
@@ -91,15 +104,29 @@ pub fn turn(
     draws: &mut [u8],
     bytes: &mut [u8],
     old: &mut [u8],
+    answer: &mut [u8],
+    meaning: &mut [u8],
     out: &mut [u8],
     at: usize,
 ) -> usize
-    requires { ⌜ RackFine (now tags) × (65536 ≤ length (now old)) ⌝ }
+    requires { ⌜ RackFine (now tags) × Room (now old) (now answer) (now meaning) ⌝ }
     ensures { λ r. ⌜ Turned quiet n reached (now (line .entry)) (now (tags .entry)) (now (draws .entry)) (now (bytes .entry)) at (now (out .entry))
         (now (tags .exit)) (now (draws .exit)) (now (bytes .exit)) (now (out .exit)) r ⌝ }
 {
     match reached {
-        Reached::Line => play_line(quiet, line, n, tags, draws, bytes, old, out, at),
+        Reached::Line => play_line(
+            quiet,
+            line,
+            n,
+            tags,
+            draws,
+            bytes,
+            old,
+            answer,
+            meaning,
+            out,
+            at,
+        ),
         Reached::Long => put_long(out, at, n),
         Reached::End => put_nothing(out, at),
     }

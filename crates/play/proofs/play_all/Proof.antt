@@ -1,4 +1,4 @@
--- The buffer for the rack as it was has room for any rack. Assumes nothing.
+-- The buffers have the room that each event asks of them. Assumes nothing.
 use borrow.Author.Needs.{needs}
 use Rattle.play.proofs.play_all.Statement.{statement}
 use Rattle.play.proofs.play_all.Tie as tie
@@ -7,11 +7,14 @@ pub play-all-spec : {M : Type 1} → statement M
 play-all-spec =
     tie.close
     (tie.spec
-    (λ c. search needs)
-    (λ c. search needs)
-    (λ c. search needs)
-    (λ c. search needs)
-    (λ c. search needs)
     (λ c κs. search needs)
+    (λ c. search needs)
+    (λ c. search needs)
+    (λ c. search needs)
+    (λ c. search needs)
+    (λ c. search needs)
+    (λ c. search needs)
+    (λ c. search needs)
+    (λ c κs. (search needs, record { rack = search needs; reply = search needs; meant = search needs }))
     (λ c. search needs)
     (λ c. search needs))

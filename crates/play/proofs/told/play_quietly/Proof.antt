@@ -8,15 +8,17 @@ use Rattle.play.proofs.told.play_quietly.Tie as tie
 
 returns : tie.Need-returns
 returns c =
-    let o = c .before .before .before .before .before .before .before .before in
+    let o = c .before .before .before .before .before .before .before .before .before in
     let d = o .before .before .before .before in
-    let s = d .before .before .before .before .before .before in
+    let k = d .before .before .before .before in
+    let s = k .before .before .before in
     let a = s .args in
     let e = d .draws-for .ensures in
     let f =
-    fine-left _ _ _ _ _ e (o .event-on .ensures) (s .pre) (λ i. d .before .before .before .before .slice-known .given i .fits)
-    (λ i. d .before .before .before .before .before .shared-slice-known .given i .fits) (λ i. d .before .before .before .shared-slice-known2 .given i .fits) in
-    played-quietly (now (a .tags)) (now (a .frame)) (now (a .draws)) (a .number) _ e (o .event-on .ensures) (a .n) f (c .before .before .put-quiet .ensures)
+    fine-left _ _ _ _ _ e (s .pre .1) (o .event-on .ensures) (s .pre .0) (λ i. k .before .slice-known .given i .fits)
+    (λ i. k .before .before .shared-slice-known .given i .fits) (λ i. k .shared-slice-known2 .given i .fits) in
+    played-quietly (now (a .tags)) (now (a .frame)) (now (a .draws)) (a .number) _ e (s .pre .1) (o .event-on .ensures) (a .n) f
+    (c .before .before .put-quiet .ensures)
 
 pub play-quietly-spec : {M : Type 1} → statement M
 play-quietly-spec =
@@ -26,10 +28,9 @@ play-quietly-spec =
     (λ c. search needs)
     (λ c. search needs)
     (λ c. few-inside _ _ _ (c .before .draws-for .ensures))
-    (λ c. search needs)
+    (λ c κs. search needs)
     (λ c κs. search needs)
     (λ c. search needs)
-    (λ c κs. search needs)
     (λ c. search needs)
     (λ c. search needs)
     returns)

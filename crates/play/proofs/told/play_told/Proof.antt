@@ -11,7 +11,7 @@ use Rattle.play.proofs.told.play_told.Tie as tie
 
 -- from the part of the old rack back to the event, the draws, the copy and the start
 abbrev played : tie.After-part-of → tie.After-event-on
-played c = c .before .before .before .before .before .before .before .before
+played c = c .before .before .before .before .before .before .before .before .before
 
 abbrev drawn : tie.After-part-of → tie.After-draws-for
 drawn c = played c .before .before .before .before
@@ -20,32 +20,33 @@ abbrev copied : tie.After-part-of → tie.After-put-text
 copied c = drawn c .before .before .before .before
 
 abbrev start : tie.After-part-of → tie.Start
-start c = copied c .before .before .before .before .before .before .before .before
+start c = copied c .before .before .before .before .before .before .before .before .before .before
 
 was : (c : tie.After-part-of) → now (c .part-of .result) ≡ now (start c .args .tags)
-was c = c .part-of .ensures ∙ kept (now (start c .args .tags)) (start c .pre .0) (start c .pre .1) (copied c .put-text .ensures)
+was c = c .part-of .ensures ∙ kept (now (start c .args .tags)) (start c .pre .0) (start c .pre .1 .rack) (copied c .put-text .ensures)
 
 fine : (c : tie.After-part-of) → RackFine (played c .event-on .last .0)
 fine c =
-    let k = copied c .before .before .before .before .before in
-    fine-left _ _ _ _ _ (drawn c .draws-for .ensures) (played c .event-on .ensures) (start c .pre .0) (λ i. k .before .slice-known .given i .fits)
-    (λ i. k .before .before .shared-slice-known .given i .fits) (λ i. k .shared-slice-known2 .given i .fits)
+    let s = start c in
+    let k = copied c .before .before .before .before .before .before .before in
+    fine-left _ _ _ _ _ (drawn c .draws-for .ensures) (s .pre .1 .reply) (played c .event-on .ensures) (s .pre .0)
+    (λ i. k .before .slice-known .given i .fits) (λ i. k .before .before .shared-slice-known .given i .fits) (λ i. k .shared-slice-known2 .given i .fits)
 
 put-told-requires : tie.Need-put-told-requires
 put-told-requires c κs =
-    let p = c .before in
-    let a = start p .args in (
-      (rw (was p) (start p .pre .0), fine p),
-      unchanged-left (now (a .tags)) (now (a .frame)) (now (a .draws)) (a .number) _ (drawn p .draws-for .ensures) (played p .event-on .ensures)
-          (start p .pre .0) _ (was p),
-    )
+    let p = c .before .before in
+    let a = start p .args in
+    let u =
+    unchanged-left (now (a .tags)) (now (a .frame)) (now (a .draws)) (a .number) _ (drawn p .draws-for .ensures) (start p .pre .1 .reply)
+    (played p .event-on .ensures) (start p .pre .0) _ (was p) in
+    ((rw (was p) (start p .pre .0), fine p), (u, start p .pre .1 .meant))
 
 returns : tie.Need-returns
 returns c =
-    let p = c .before .before .before .before in
+    let p = c .before .before .before .before .before .before .before in
     let a = start p .args in
-    played-told (now (a .tags)) (now (a .frame)) (now (a .draws)) (a .number) _ (drawn p .draws-for .ensures) (played p .event-on .ensures) (a .n) (fine p)
-    (was p) (c .before .before .put-told .ensures)
+    played-told (now (a .tags)) (now (a .frame)) (now (a .draws)) (a .number) _ (drawn p .draws-for .ensures) (start p .pre .1 .reply)
+    (played p .event-on .ensures) (a .n) (fine p) (was p) (c .before .before .before .before .put-told .ensures)
 
 pub play-told-spec : {M : Type 1} → statement M
 play-told-spec =
@@ -56,14 +57,14 @@ play-told-spec =
     (λ c. search needs)
     (λ c. search needs)
     (λ c. few-inside _ _ _ (c .before .draws-for .ensures))
-    (λ c. search needs)
     (λ c κs. search needs)
     (λ c. search needs)
     (λ c. search needs)
-    (λ c. few-inside _ _ _ (c .before .before .before .before .before .before .before .before .draws-for .ensures))
-    (λ c. search needs)
+    (λ c. few-inside _ _ _ (c .before .before .before .before .before .before .before .before .before .draws-for .ensures))
     (λ c κs. search needs)
     put-told-requires
+    (λ c. search needs)
+    (λ c. search needs)
     (λ c. search needs)
     (λ c. search needs)
     (λ c. search needs)

@@ -10,7 +10,7 @@ use Rattle.play.proofs.turns.play_line.Tie as tie
 
 -- what the line asks, and what was handed over, from the place where its action is known
 abbrev asked : tie.After-action-of → tie.Start
-asked o = o .before .before .before .before .before .before .before .before .before
+asked o = o .before .before .before .before .before .before .before .before .before .before .before
 
 returns : tie.Need-returns
 returns c =
@@ -22,8 +22,8 @@ returns c =
 
 returns-2 : tie.Need-returns-2
 returns-2 c =
-    let p = c .before .before .before .before .before .before in
-    let t = p .before .before .before .before .before .before .before .before in
+    let p = c .before .before .before .before .before .before .before .before .before .before in
+    let t = p .before .before .before .before .before .before .before .before .before .before in
     let o = t .before .before .before .before .before .before in
     let a = asked o .args in
     event-turned (now (a .line)) (now (a .draws)) (now (a .bytes)) (now (a .tags)) (o .action-of .ensures) (a .quiet) (a .n) _ _ (t .action .given .1)
@@ -68,6 +68,8 @@ play-line-spec =
     (λ c. search needs)
     (λ c. search needs)
     returns
+    (λ c. search needs)
+    (λ c. search needs)
     (λ c. search needs)
     (λ c. search needs)
     (λ c. search needs)
