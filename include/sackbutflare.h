@@ -12,10 +12,11 @@
 #include <stddef.h>
 #include <stdint.h>
 
-/* 100 times the edition of these declarations, and how often something was added to it: 200 is 2.0. A program written for an edition compiles and
- * means the same with all that was added; another edition may ask a change of it. Of a program written for 1.0 edition 2 asks the length of each UID
- * behind its pointer, in sackbutflare_write_request and sackbutflare_read_answer. */
-#define SACKBUTFLARE_VERSION 200
+/* 100 times the edition of these declarations, and how often something was added to it: 300 is 3.0. A program written for an edition compiles and
+ * means the same with all that was added; another edition may ask a change of it. Of a program written for 2.0 edition 3 asks an answer buffer of 8,451
+ * bytes in sackbutflare_event, where it was 64, and to be compiled anew: sackbutflare_command and sackbutflare_told have a field more, at their end.
+ * Of one written for 1.0 edition 2 asked the length of each UID behind its pointer, in sackbutflare_write_request and sackbutflare_read_answer. */
+#define SACKBUTFLARE_VERSION 300
 
 #ifdef __cplusplus
 extern "C" {
@@ -34,8 +35,8 @@ struct sackbutflare_report {
 };
 
 /* Plays an event on a rack: 1 field off, 2 field on, 3 label frame, 4 bare end of frame, 5 chip frame. A draw, one random byte, for each
- * tag; an answer buffer of 64 bytes or more. Refusals: 1 rack not well-formed, 2 number of draws is not the number of tags, 3 answer
- * buffer under 64 bytes, 4 event number not 1 to 5. */
+ * tag; an answer buffer of 8,451 bytes or more, room for the longest answer: 256 blocks of 32 bytes with their lock bytes. Refusals: 1 rack not
+ * well-formed, 2 number of draws is not the number of tags, 3 answer buffer under 8,451 bytes, 4 event number not 1 to 5. */
 struct sackbutflare_report sackbutflare_event(uint8_t *rack, size_t rack_length, uint8_t number, const uint8_t *frame, size_t frame_length,
                                               const uint8_t *draws, size_t draws_length, uint8_t *answer, size_t answer_length);
 
@@ -66,9 +67,10 @@ struct sackbutflare_command {
     bool afi_given;    /* Inventory: an AFI is sent */
     uint8_t afi;
     uint8_t mask_bits; /* Inventory: the length of the mask */
-    uint8_t byte;      /* block, address, slot, Chip_ID, or AFI or DSFID to write */
+    uint8_t byte;      /* block, first block, address, slot, Chip_ID, or AFI or DSFID to write */
     uint16_t code;
     uint64_t mask;     /* Inventory: the mask as a number */
+    uint8_t more;      /* 23, 2C: how many blocks behind the first, which is the count less 1 */
 };
 
 struct sackbutflare_written {
@@ -85,15 +87,18 @@ struct sackbutflare_written sackbutflare_write_request(struct sackbutflare_comma
 /* What an answer means, and what is told with it. */
 enum {
     SACKBUTFLARE_REFUSED = 0,
-    SACKBUTFLARE_ERROR = 1,        /* error: the label's own code */
+    SACKBUTFLARE_ERROR = 1,          /* error: the label's own code */
     SACKBUTFLARE_DONE = 2,
-    SACKBUTFLARE_FOUND = 3,        /* dsfid, uid: to an Inventory */
-    SACKBUTFLARE_BLOCK = 4,        /* place and length of its bytes in the frame */
-    SACKBUTFLARE_LOCKED_BLOCK = 5, /* lock, place, length: to a read with Option */
-    SACKBUTFLARE_SYSTEM = 6,       /* dsfid, afi, blocks, size, ic, uid; blocks and size as sent, less 1 */
-    SACKBUTFLARE_CHIP_ID = 7,      /* id */
-    SACKBUTFLARE_WORD = 8,         /* word: a chip's block */
-    SACKBUTFLARE_CHIP_UID = 9      /* uid */
+    SACKBUTFLARE_FOUND = 3,          /* dsfid, uid: to an Inventory */
+    SACKBUTFLARE_BLOCK = 4,          /* place and length of its bytes in the frame */
+    SACKBUTFLARE_LOCKED_BLOCK = 5,   /* lock, place, length: to a read with Option */
+    SACKBUTFLARE_SYSTEM = 6,         /* dsfid, afi, blocks, size, ic, uid; blocks and size as sent, less 1 */
+    SACKBUTFLARE_CHIP_ID = 7,        /* id */
+    SACKBUTFLARE_WORD = 8,           /* word: a chip's block */
+    SACKBUTFLARE_CHIP_UID = 9,       /* uid */
+    SACKBUTFLARE_BLOCKS = 10,        /* place, length, count: block i has its bytes at place + i * length */
+    SACKBUTFLARE_LOCKED_BLOCKS = 11, /* place, length, count: block i has its lock byte at place + i * (1 + length), its bytes behind it */
+    SACKBUTFLARE_LOCKS = 12          /* place, length 1, count: block i has its lock byte at place + i */
 };
 
 /* Numbers that do not go with the meaning are 0. */
@@ -112,6 +117,7 @@ struct sackbutflare_told {
     size_t place;
     size_t length;
     uint64_t uid;
+    size_t count;
 };
 
 /* Reads the answer to a command that was sent for uid, as above, with so many bytes of data. Refusals: 7 as above, 8 under 3 bytes or a wrong

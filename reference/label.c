@@ -16,8 +16,9 @@ enum {
 
 enum {
     CMD_INVENTORY = 0x01, CMD_STAY_QUIET = 0x02, CMD_READ = 0x20, CMD_WRITE = 0x21,
-    CMD_LOCK = 0x22, CMD_SELECT = 0x25, CMD_READY = 0x26, CMD_WRITE_AFI = 0x27,
-    CMD_LOCK_AFI = 0x28, CMD_WRITE_DSFID = 0x29, CMD_LOCK_DSFID = 0x2A, CMD_SYSTEM = 0x2B
+    CMD_LOCK = 0x22, CMD_READ_MANY = 0x23, CMD_SELECT = 0x25, CMD_READY = 0x26,
+    CMD_WRITE_AFI = 0x27, CMD_LOCK_AFI = 0x28, CMD_WRITE_DSFID = 0x29, CMD_LOCK_DSFID = 0x2A,
+    CMD_SYSTEM = 0x2B, CMD_SECURITY_MANY = 0x2C
 };
 
 enum {
@@ -238,7 +239,7 @@ void ref_label_end_of_frame(uint8_t *body, struct ref_answer *answer)
 static const struct { uint8_t code, length; } LENGTHS[] = {
     { CMD_READ, 5 }, { CMD_LOCK, 5 }, { CMD_WRITE_AFI, 5 }, { CMD_WRITE_DSFID, 5 },
     { CMD_READY, 4 }, { CMD_LOCK_AFI, 4 }, { CMD_LOCK_DSFID, 4 }, { CMD_SYSTEM, 4 },
-    { CMD_WRITE, 5 }, { CMD_SELECT, 12 }
+    { CMD_WRITE, 5 }, { CMD_SELECT, 12 }, { CMD_READ_MANY, 6 }, { CMD_SECURITY_MANY, 6 }
 };
 
 /* The length this label wants, or 0 for an unknown code. */
@@ -257,9 +258,29 @@ static size_t wanted_length(const uint8_t *body, const struct request *request)
     return length;
 }
 
+static int names_many(uint8_t code)
+{
+    return code == CMD_READ_MANY || code == CMD_SECURITY_MANY;
+}
+
 static int names_a_block(uint8_t code)
 {
-    return code == CMD_READ || code == CMD_WRITE || code == CMD_LOCK;
+    return code == CMD_READ || code == CMD_WRITE || code == CMD_LOCK || names_many(code);
+}
+
+static int takes_option(uint8_t code)
+{
+    return code == CMD_READ || code == CMD_READ_MANY;
+}
+
+/* The last block asked for; the second parameter is a number of blocks less
+ * 1. A sum up to 510 must not wrap. */
+static unsigned last_block(const struct request *request)
+{
+    unsigned last = request->frame[request->first];
+    if (names_many(request->code))
+        last += request->frame[request->first + 1];
+    return last;
 }
 
 /* The checks in the paper's order, up to the block number; 0 if all is well. */
@@ -270,9 +291,9 @@ static uint8_t first_error(const uint8_t *body, const struct request *request)
         return ERROR_CODE;
     if (request->length != wanted)
         return ERROR_LENGTH;
-    if (request->option && request->code != CMD_READ)
+    if (request->option && !takes_option(request->code))
         return ERROR_OPTION;
-    if (names_a_block(request->code) && request->frame[request->first] >= block_count(body))
+    if (names_a_block(request->code) && last_block(request) >= block_count(body))
         return ERROR_NO_BLOCK;
     return 0;
 }
@@ -284,6 +305,28 @@ static void do_read(uint8_t *body, const struct request *request, struct ref_ans
     if (request->option)
         ref_answer_byte(answer, *lock_of(body, block));
     ref_answer_bytes(answer, block_of(body, block), block_size(body));
+    ref_answer_close(answer);
+}
+
+/* 23: each block, its lock byte first if Option. */
+static void do_read_many(uint8_t *body, const struct request *request, struct ref_answer *answer)
+{
+    ref_answer_byte(answer, 0x00);
+    for (unsigned block = request->frame[request->first]; block <= last_block(request); block++) {
+        if (request->option)
+            ref_answer_byte(answer, *lock_of(body, (uint8_t)block));
+        ref_answer_bytes(answer, block_of(body, (uint8_t)block), block_size(body));
+    }
+    ref_answer_close(answer);
+}
+
+/* 2C: the lock bytes alone. */
+static void do_security_many(uint8_t *body, const struct request *request,
+                             struct ref_answer *answer)
+{
+    ref_answer_byte(answer, 0x00);
+    for (unsigned block = request->frame[request->first]; block <= last_block(request); block++)
+        ref_answer_byte(answer, *lock_of(body, (uint8_t)block));
     ref_answer_close(answer);
 }
 
@@ -363,6 +406,7 @@ static void act(uint8_t *body, const struct request *request, struct ref_answer 
     case CMD_READ: do_read(body, request, answer); break;
     case CMD_WRITE: do_write(body, request, answer); break;
     case CMD_LOCK: do_lock(body, request, answer); break;
+    case CMD_READ_MANY: do_read_many(body, request, answer); break;
     case CMD_SELECT: do_state(body, LABEL_SELECTED, answer); break;
     case CMD_READY: do_state(body, LABEL_READY, answer); break;
     case CMD_WRITE_AFI: do_write_field(body, LABEL_AFI, LOCK_AFI, request, answer); break;
@@ -370,6 +414,7 @@ static void act(uint8_t *body, const struct request *request, struct ref_answer 
     case CMD_WRITE_DSFID: do_write_field(body, LABEL_DSFID, LOCK_DSFID, request, answer); break;
     case CMD_LOCK_DSFID: do_lock_field(body, LOCK_DSFID, answer); break;
     case CMD_SYSTEM: do_system(body, answer); break;
+    case CMD_SECURITY_MANY: do_security_many(body, request, answer); break;
     default: break;
     }
 }

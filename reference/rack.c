@@ -109,7 +109,7 @@ static int event_refusal(const uint8_t *rack, size_t rack_len, uint8_t number,
         return 1;
     if (draws_len != ref_rack_tags(rack))
         return 2;
-    if (answer_len < REF_OUTPUT)
+    if (answer_len < REF_ANSWER)
         return 3;
     if (number < REF_OFF || number > REF_CHIP_FRAME)
         return 4;
@@ -124,14 +124,16 @@ static uint32_t all_steps(uint8_t *rack, const struct event *event, const uint8_
     uint32_t answered = 0;
     for (size_t i = 0; i < ref_rack_tags(rack); i++) {
         uint8_t *body = rack + ref_rack_offset(rack, i);
-        struct ref_answer answer = { { 0 }, 0 };
+        struct ref_answer answer;
+        answer.length = 0;
         if (ref_rack_kind(rack, i) == REF_KIND_LABEL)
             label_step(body, event, &answer);
         else
             chip_step(body, event, draws[i], &answer);
         if (answer.length > 0) {
             answered++;
-            *heard = answer;
+            heard->length = answer.length;
+            memcpy(heard->bytes, answer.bytes, answer.length);
         }
     }
     return answered;
@@ -148,7 +150,7 @@ int ref_event(uint8_t *rack, size_t rack_len, uint8_t number,
         report.number = (uint32_t)refusal;
     } else {
         struct event event = { number, frame, frame_len };
-        struct ref_answer heard = { { 0 }, 0 };
+        struct ref_answer heard;
         report.answered = all_steps(rack, &event, draws, &heard);
         if (report.answered == 1) {
             memcpy(answer, heard.bytes, heard.length);

@@ -7,8 +7,19 @@
 
 static int is_label_code(uint16_t code)
 {
-    return code == 0x01 || code == 0x02 || (code >= 0x20 && code <= 0x22)
-        || (code >= 0x25 && code <= 0x2B);
+    return code == 0x01 || code == 0x02 || (code >= 0x20 && code <= 0x23)
+        || (code >= 0x25 && code <= 0x2C);
+}
+
+static int takes_option(uint16_t code)
+{
+    return code == 0x20 || code == 0x23;
+}
+
+/* 23 and 2C have a first block and a number of blocks less 1. */
+static int names_many(uint16_t code)
+{
+    return code == 0x23 || code == 0x2C;
 }
 
 static int is_chip_code(uint16_t code)
@@ -43,11 +54,13 @@ static int label_command_allowed(const struct ref_command *command, size_t data_
 {
     if (!is_label_code(command->code) || !label_target_allowed(command))
         return 0;
-    if (command->option && command->code != 0x20)
+    if (command->option && !takes_option(command->code))
         return 0;
     if (command->code == 0x01 && !mask_allowed(command))
         return 0;
     if (command->code == 0x21 && (data_len < 1 || data_len > 32))
+        return 0;
+    if (names_many(command->code) && (unsigned)command->byte + command->more > 255)
         return 0;
     return 1;
 }
@@ -110,10 +123,11 @@ static void write_label_head(const struct ref_command *command, const uint8_t *u
         ref_answer_bytes(frame, uid, REF_UID);
 }
 
-/* Block number, AFI or DSFID: 20, 21, 22, 27 and 29 have one such byte. */
+/* Block number, AFI or DSFID: 20, 21, 22, 27 and 29 have one such byte, and
+ * 23 and 2C the first block. */
 static int label_has_byte(uint16_t code)
 {
-    return code == 0x20 || code == 0x21 || code == 0x22 || code == 0x27 || code == 0x29;
+    return (code >= 0x20 && code <= 0x23) || code == 0x27 || code == 0x29 || code == 0x2C;
 }
 
 static void write_label(const struct ref_command *command, const uint8_t *uid,
@@ -126,6 +140,8 @@ static void write_label(const struct ref_command *command, const uint8_t *uid,
     write_label_head(command, uid, frame);
     if (label_has_byte(command->code))
         ref_answer_byte(frame, command->byte);
+    if (names_many(command->code))
+        ref_answer_byte(frame, command->more);
     if (command->code == 0x21)
         ref_answer_bytes(frame, data, data_len);
 }
@@ -163,7 +179,8 @@ int ref_write_request(const struct ref_command *command, const uint8_t *uid,
                       const uint8_t *data, size_t data_len,
                       uint8_t *out, size_t out_len, struct ref_written *result)
 {
-    struct ref_answer frame = { { 0 }, 0 };
+    struct ref_answer frame;
+    frame.length = 0;
     int refusal = writer_refusal(command, data_len, out_len);
     if (refusal == 0) {
         if (command->kind == REF_KIND_LABEL)
@@ -227,6 +244,49 @@ static int read_block_answer(const struct ref_command *command, const uint8_t *b
     return 1;
 }
 
+/* Is each of these bytes, so many apart, 0 or 1? */
+static int lock_bytes(const uint8_t *bytes, size_t count, size_t apart)
+{
+    for (size_t i = 0; i < count; i++)
+        if (bytes[i * apart] > 1)
+            return 0;
+    return 1;
+}
+
+/* 00, then as many equal parts as blocks were asked for: a block each, with
+ * Option its lock byte first. */
+static int read_blocks(const struct ref_command *command, const uint8_t *bytes, size_t len,
+                       struct ref_reading *out)
+{
+    size_t count = command->more + 1u, head = command->option ? 1 : 0;
+    if (bytes[0] != 0x00 || (len - 1) % count != 0)
+        return 0;
+    size_t part = (len - 1) / count;
+    if (part < head + 1 || part > head + 32)
+        return 0;
+    if (command->option && !lock_bytes(bytes + 1, count, part))
+        return 0;
+    out->meaning = REF_MEANS_BLOCKS;
+    out->place = 1;
+    out->length = (uint32_t)(part - head);
+    out->count = (uint32_t)count;
+    return 1;
+}
+
+/* 00, then a lock byte for each block. */
+static int read_locks(const struct ref_command *command, const uint8_t *bytes, size_t len,
+                      struct ref_reading *out)
+{
+    size_t count = command->more + 1u;
+    if (len != 1 + count || bytes[0] != 0x00 || !lock_bytes(bytes + 1, count, 1))
+        return 0;
+    out->meaning = REF_MEANS_LOCKS;
+    out->place = 1;
+    out->length = 1;
+    out->count = (uint32_t)count;
+    return 1;
+}
+
 /* 00, 0F, UID, DSFID, AFI, blocks less 1, length less 1, IC reference. */
 static int read_system(const struct ref_command *command, const uint8_t *uid,
                        const uint8_t *bytes, size_t len, struct ref_reading *out)
@@ -264,6 +324,10 @@ static int read_label(const struct ref_command *command, const uint8_t *uid,
         return 1;
     if (command->code == 0x20)
         return read_block_answer(command, bytes, len, out);
+    if (command->code == 0x23)
+        return read_blocks(command, bytes, len, out);
+    if (command->code == 0x2C)
+        return read_locks(command, bytes, len, out);
     if (command->code == 0x2B)
         return read_system(command, uid, bytes, len, out);
     return read_done(bytes, len, out);

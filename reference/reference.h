@@ -1,7 +1,7 @@
 /* reference.h - an independent reading, in plain C, of the rules of the rack.
  *
- * "The paper" is document 01. It decides. Frame bytes and codes are written
- * in hex in the comments, as the paper writes them. Bits count from 0.
+ * "The paper" is document 01, as document 02 changes it. It decides. Frame
+ * bytes and codes are written in hex in the comments, as the paper writes them. Bits count from 0.
  * All numbers of several bytes go least significant byte first.
  */
 #ifndef REFERENCE_H
@@ -18,7 +18,9 @@ enum {
     REF_HEAD = 2,            /* edition and number of tags */
     REF_ENTRY = 8,           /* bytes of one entry of the contents */
     REF_UID = 8,
-    REF_OUTPUT = 64,         /* an output buffer must have as many bytes */
+    REF_OUTPUT = 64,         /* the request writer's buffer must have as many bytes */
+    REF_ANSWER = 8451,       /* and an event's: 00, 256 blocks of 32 bytes with their
+                                lock bytes, CRC */
     REF_KIND_LABEL = 1,
     REF_KIND_CHIP = 2
 };
@@ -92,6 +94,7 @@ struct ref_command {
     uint64_t mask;        /* Inventory: the mask as a number */
     uint8_t byte;         /* block number, AFI or DSFID to write, chip
                              address, slot s or Chip_ID */
+    uint8_t more;         /* 23, 2C: number of blocks less 1, `byte` is the first */
 };
 
 /* What an answer means. */
@@ -104,7 +107,11 @@ enum {
     REF_MEANS_SYSTEM = 5,     /* uid, dsfid, afi, blocks, size, ic */
     REF_MEANS_CHIP_ID = 6,    /* chip_id */
     REF_MEANS_WORD = 7,       /* word, and place and length of its 4 bytes */
-    REF_MEANS_CHIP_UID = 8    /* uid */
+    REF_MEANS_CHIP_UID = 8,   /* uid */
+    REF_MEANS_BLOCKS = 9,     /* place, length of one block, count; with Option a
+                                 lock byte stands before each block, the first at
+                                 place */
+    REF_MEANS_LOCKS = 10      /* place, length 1, count: lock bytes */
 };
 
 struct ref_reading {
@@ -119,6 +126,7 @@ struct ref_reading {
     uint8_t lock;
     uint32_t place;       /* where the data begins in the frame */
     uint32_t length;      /* how many data bytes */
+    uint32_t count;       /* how many blocks */
     uint8_t chip_id;
     uint32_t word;
     uint8_t uid[REF_UID];
@@ -141,9 +149,9 @@ uint16_t ref_check_run(const uint8_t *bytes, size_t len);   /* the register, not
 uint16_t ref_check_sum(const uint8_t *bytes, size_t len);   /* inverted: what is sent */
 int ref_check_right(const uint8_t *frame, size_t len);      /* do its last two bytes fit? */
 
-/* One tag's answer. Length 0 is silence; no answer is longer than 36 bytes. */
+/* One tag's answer. Length 0 is silence. */
 struct ref_answer {
-    uint8_t bytes[REF_OUTPUT];
+    uint8_t bytes[REF_ANSWER];
     size_t length;
 };
 

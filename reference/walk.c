@@ -59,7 +59,7 @@ static struct ref_report send_event(struct walk *walk, uint8_t number, const uin
     static const uint8_t draws[REF_TAGS_MOST];
     struct ref_report report;
     ref_event(walk->rack, walk->rack_len, number, frame, len, draws,
-              ref_rack_tags(walk->rack), answer, REF_OUTPUT, &report);
+              ref_rack_tags(walk->rack), answer, REF_ANSWER, &report);
     return report;
 }
 
@@ -96,7 +96,7 @@ static int hear_slot(struct walk *walk, const struct ref_report *report, const u
 static unsigned one_round(struct walk *walk, unsigned bits, uint64_t mask)
 {
     uint8_t frame[16];
-    uint8_t answer[REF_OUTPUT];
+    uint8_t answer[REF_ANSWER];
     unsigned collided = 0;
     size_t len = inventory_frame(walk, bits, mask, frame);
     struct ref_report report = send_event(walk, REF_LABEL_FRAME, frame, len, answer);

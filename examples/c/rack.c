@@ -1,5 +1,5 @@
 /* rack.c - a station's test in small: a rack of two labels and a chip, made here, is played through a few events. A label is found, selected,
- * written "cleaned" and read back; then all labels are found by a walk. */
+ * written "cleaned" and read back, alone and with all its blocks; then all labels are found by a walk. */
 #include "sackbutflare.h"
 
 #include <stdio.h>
@@ -10,7 +10,7 @@ enum { TAGS = 3, BLOCKS = 2, SIZE = 8, LABEL = 32 + BLOCKS * (1 + SIZE), CHIP = 
 enum { OFF = 1, ON = 2, LABEL_FRAME = 3 };
 
 static uint8_t rack[RACK];
-static uint8_t answer[64];
+static uint8_t answer[8451];
 
 static void put(uint8_t *to, uint64_t number, int bytes)
 {
@@ -112,6 +112,14 @@ static void find_and_write(void)
     block.code = 0x20;
     told = ask("read it back", block, 0, "");
     printf("  %u bytes: %.*s", (unsigned)told.length, (int)told.length, (const char *)answer + told.place);
+    struct sackbutflare_command all = to_label(0x23, SACKBUTFLARE_SELECTED);
+    all.more = BLOCKS - 1;
+    all.option = true;
+    told = ask("read all blocks in one go, with their lock bytes", all, 0, "");
+    for (size_t i = 0; i < told.count; i++) {
+        const uint8_t *lock = answer + told.place + i * (1 + told.length);
+        bytes(*lock ? "  locked" : "  not locked", lock + 1, told.length);
+    }
     block.byte = BLOCKS;
     told = ask("read a block that is not there", block, 0, "");
     printf("  meaning %u, error %02X\n", told.meaning, told.error);

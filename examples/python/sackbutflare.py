@@ -13,11 +13,11 @@ FIELD_OFF, FIELD_ON, LABEL_FRAME, END_OF_FRAME, CHIP_FRAME = range(1, 6)
 LABEL, CHIP = 1, 2
 EVERYONE, SELECTED, ONE_UID = range(3)
 # What an answer means.
-ERROR, DONE, FOUND, BLOCK, LOCKED_BLOCK, SYSTEM, CHIP_ID, WORD, CHIP_UID = range(1, 10)
-# The most bytes of an answer and of a request.
-ROOM = 64
+ERROR, DONE, FOUND, BLOCK, LOCKED_BLOCK, SYSTEM, CHIP_ID, WORD, CHIP_UID, BLOCKS, LOCKED_BLOCKS, LOCKS = range(1, 13)
+# The room that an answer and a request must have.
+ANSWER, REQUEST = 8451, 64
 # The edition of the header that these calls are of.
-EDITION = 2
+EDITION = 3
 
 
 class Report(ctypes.Structure):
@@ -42,6 +42,7 @@ class Command(ctypes.Structure):
         ("byte", c_uint8),
         ("code", c_uint16),
         ("mask", c_uint64),
+        ("more", c_uint8),
     ]
 
 
@@ -67,6 +68,7 @@ class Told(ctypes.Structure):
         ("place", c_size_t),
         ("length", c_size_t),
         ("uid", c_uint64),
+        ("count", c_size_t),
     ]
 
 
@@ -123,7 +125,7 @@ class Station:
         """Plays an event: how many tags answered, and the answer of one that was alone. Without draws, every draw is 0."""
         if draws is None:
             draws = bytes(rack[1]) if len(rack) > 1 else b""
-        answer = bytearray(ROOM)
+        answer = bytearray(ANSWER)
         report = _accepted(
             self._event(_lent(rack), len(rack), number, bytes(frame), len(frame), bytes(draws), len(draws), _lent(answer), len(answer))
         )
@@ -138,7 +140,7 @@ class Station:
 
     def write_request(self, command, uid=None, data=b""):
         """The frame of a command, with its check sum; the UID counts where the target is one UID."""
-        out, uid = bytearray(ROOM), _uid(uid)
+        out, uid = bytearray(REQUEST), _uid(uid)
         written = _accepted(self._write_request(command, uid, len(uid), bytes(data), len(data), _lent(out), len(out)))
         return bytes(out[: written.length])
 

@@ -167,6 +167,10 @@ static void label_size(struct gen *g, unsigned *blocks, unsigned *size)
         *blocks = 1 + gen_below(g, 256);
         *size = 1 + gen_below(g, 32);
     }
+    if (how == 3 && gen_chance(g, 40)) {
+        *blocks = 256;
+        *size = 32;
+    }
 }
 
 static void label_memory(struct gen *g, uint8_t *body, unsigned blocks, unsigned size)
@@ -349,6 +353,22 @@ size_t gen_rack(struct gen *g, uint8_t *rack)
         end += len;
     }
     disguise_some(g, &f, rack);
+    return end;
+}
+
+size_t gen_long_rack(struct gen *g, uint8_t *rack)
+{
+    struct family f;
+    size_t n = 1 + gen_below(g, 2), end = REF_HEAD + REF_ENTRY * n;
+    new_family(g, &f);
+    g->ends_to_come = 0;
+    rack[0] = 1;
+    rack[1] = (uint8_t)n;
+    for (size_t i = 0; i < n; i++) {
+        size_t len = sized_label(g, &f, rack + end, 256, 32);
+        write_entry(rack, i, REF_KIND_LABEL, len, end);
+        end += len;
+    }
     return end;
 }
 
@@ -713,10 +733,10 @@ static size_t inventory_frame(struct gen *g, const uint8_t *rack, uint8_t *frame
 
 static const uint8_t LABEL_CODES[] = {
     0x02, 0x20, 0x21, 0x22, 0x25, 0x26, 0x27, 0x28, 0x29, 0x2A, 0x2B,
-    0x20, 0x21, 0x25, 0x25, 0x02, 0x26, 0x21
+    0x20, 0x21, 0x25, 0x25, 0x02, 0x26, 0x21, 0x23, 0x23, 0x23, 0x2C, 0x2C
 };
 static const uint8_t OTHER_CODES[] = {
-    0x00, 0x01, 0x01, 0x03, 0x1F, 0x23, 0x24, 0x2C, 0x2D, 0x9F, 0xA0, 0xDF, 0xE0, 0xFF
+    0x00, 0x01, 0x01, 0x03, 0x1F, 0x24, 0x2D, 0x9F, 0xA0, 0xDF, 0xE0, 0xFF
 };
 
 static uint8_t pick_block(struct gen *g, const uint8_t *body)
@@ -734,12 +754,35 @@ static uint8_t pick_block(struct gen *g, const uint8_t *body)
     return (uint8_t)gen_below(g, blocks);
 }
 
+/* First block and number of blocks less 1: the whole label, rather where that
+ * is 256 blocks, to its end, past it by one, or with a number at an edge. */
+static void put_blocks(struct gen *g, const uint8_t *body, uint8_t *at)
+{
+    static const uint8_t edges[] = { 0, 0, 1, 254, 255 };
+    uint32_t blocks = body[LABEL_BLOCKS] + 1u;
+    uint32_t how = blocks == 256 && gen_chance(g, 60) ? 0 : gen_below(g, 12);
+    at[0] = how < 4 ? 0 : pick_block(g, body);
+    uint32_t left = at[0] < blocks ? blocks - at[0] : 1;
+    if (how < 3 || how == 4)
+        at[1] = (uint8_t)(left - 1);
+    else if (how == 3 || how == 5)
+        at[1] = (uint8_t)left;
+    else if (how < 8)
+        at[1] = one_of(g, edges, sizeof edges);
+    else
+        at[1] = (uint8_t)(how == 8 ? gen_byte(g) : gen_below(g, left));
+}
+
 /* The parameters behind the UID, for this code and this label. */
 static size_t put_parameters(struct gen *g, const uint8_t *body, uint8_t code, uint8_t *at)
 {
     size_t len = 0;
     if (code == 0x20 || code == 0x21 || code == 0x22)
         at[len++] = pick_block(g, body);
+    if (code == 0x23 || code == 0x2C) {
+        put_blocks(g, body, at);
+        len = 2;
+    }
     if (code == 0x27 || code == 0x29)
         at[len++] = gen_byte(g);
     if (code == 0x21) {
@@ -764,6 +807,8 @@ static size_t command_frame(struct gen *g, const uint8_t *rack, uint8_t *frame)
     frame[len++] = odd_flags(g, flags);
     frame[len++] = gen_chance(g, 93) ? one_of(g, LABEL_CODES, sizeof LABEL_CODES)
                                      : one_of(g, OTHER_CODES, sizeof OTHER_CODES);
+    if (frame[1] == 0x23 && gen_chance(g, 50))
+        frame[0] |= 0x40;
     if (frame[1] == 0x25 && gen_chance(g, 80)) {
         flags = (uint8_t)((flags & 0x40) | 0x20);
         frame[0] = (uint8_t)((frame[0] & 0x8F) | flags);
@@ -988,10 +1033,10 @@ static size_t draws_length(struct gen *g, size_t n, int good)
 
 static size_t answer_length(struct gen *g, int good)
 {
-    static const uint8_t edges[] = { 0, 1, 12, 36, 63, 63, 63 };
+    static const uint16_t under[] = { 0, 1, 63, 64, 8195, REF_ANSWER - 1, REF_ANSWER - 1, REF_ANSWER - 1 };
     if (!good && gen_chance(g, 4))
-        return one_of(g, edges, sizeof edges);
-    return gen_chance(g, 80) ? 64 : 64 + gen_below(g, GEN_ANSWER_ROOM - 63);
+        return under[gen_below(g, 8)];
+    return gen_chance(g, 80) ? REF_ANSWER : REF_ANSWER + gen_below(g, GEN_ANSWER_ROOM - REF_ANSWER + 1);
 }
 
 void gen_event(struct gen *g, const uint8_t *rack, int good, struct gen_event *event)
@@ -1016,8 +1061,22 @@ static const uint16_t READER_CHIP_CODES[] = {
 };
 static const uint8_t READER_LABEL_CODES[] = {
     0x01, 0x01, 0x01, 0x02, 0x20, 0x20, 0x20, 0x21, 0x22, 0x25, 0x26, 0x27, 0x28, 0x29, 0x2A,
-    0x2B, 0x2B
+    0x2B, 0x2B, 0x23, 0x23, 0x23, 0x2C, 0x2C
 };
+
+static int names_many(uint16_t code)
+{
+    return code == 0x23 || code == 0x2C;
+}
+
+/* How many blocks behind the first, so that none is over 255: few, or all. */
+static uint8_t blocks_behind(struct gen *g, uint8_t first)
+{
+    uint32_t most = 255u - first, how = gen_below(g, 10);
+    if (how == 0)
+        return (uint8_t)most;
+    return (uint8_t)gen_below(g, how < 3 || most < 6 ? most + 1 : 6);
+}
 
 static void valid_label_command(struct gen *g, struct ref_command *c)
 {
@@ -1028,13 +1087,18 @@ static void valid_label_command(struct gen *g, struct ref_command *c)
         c->target = REF_EVERYONE;
     if (c->code == 0x02 || c->code == 0x25)
         c->target = REF_ONE_UID;
-    c->option = (uint8_t)(c->code == 0x20 && gen_chance(g, 50));
+    c->option = (uint8_t)((c->code == 0x20 || c->code == 0x23) && gen_chance(g, 50));
     c->afi_present = (uint8_t)gen_below(g, 2);
     c->afi = (uint8_t)(gen_chance(g, 30) ? 0 : gen_byte(g));
     c->sixteen = (uint8_t)gen_below(g, 2);
     c->mask_bits = (uint8_t)gen_below(g, c->sixteen ? 61 : 65);
     c->mask = gen_u64(g) & ref_low_bits(c->mask_bits);
     c->byte = gen_byte(g);
+    c->more = gen_byte(g);
+    if (names_many(c->code)) {
+        c->byte = (uint8_t)(gen_chance(g, 30) ? 0 : c->byte);
+        c->more = blocks_behind(g, c->byte);
+    }
 }
 
 static void valid_chip_command(struct gen *g, struct ref_command *c)
@@ -1043,6 +1107,7 @@ static void valid_chip_command(struct gen *g, struct ref_command *c)
     c->kind = REF_KIND_CHIP;
     c->code = READER_CHIP_CODES[gen_below(g, 9)];
     c->byte = gen_byte(g);
+    c->more = gen_byte(g);
     if (c->code == REF_READ_BLOCK || c->code == REF_WRITE_BLOCK)
         c->byte = (uint8_t)(gen_chance(g, 10) ? 255 : gen_below(g, 16));
     if (c->code == REF_SLOT_MARKER)
@@ -1053,7 +1118,7 @@ static void valid_chip_command(struct gen *g, struct ref_command *c)
 static void turn_field(struct gen *g, struct gen_command *c)
 {
     struct ref_command *k = &c->command;
-    switch (gen_below(g, 10)) {
+    switch (gen_below(g, 11)) {
     case 0: k->kind = (uint8_t)gen_below(g, 4); break;
     case 1: k->code = (uint16_t)(gen_chance(g, 50) ? gen_below(g, 0x30) : gen_below(g, 0x700)); break;
     case 2: k->target = (uint8_t)gen_below(g, 4); break;
@@ -1063,6 +1128,7 @@ static void turn_field(struct gen *g, struct gen_command *c)
     case 6: k->mask |= (uint64_t)1 << (k->mask_bits % 64); break;
     case 7: c->data_len = gen_below(g, 40); break;
     case 8: k->byte = (uint8_t)(gen_chance(g, 50) ? gen_below(g, 20) : 240 + gen_below(g, 16)); break;
+    case 9: k->more = (uint8_t)(gen_chance(g, 50) ? 255u - k->byte + gen_below(g, 2) : gen_byte(g)); break;
     default: k->sixteen ^= 1; break;
     }
 }
@@ -1083,6 +1149,30 @@ void gen_command(struct gen *g, struct gen_command *c)
     if (gen_chance(g, 5))
         turn_field(g, c);
     c->out_len = gen_chance(g, 85) ? 64 : one_of(g, rooms, sizeof rooms);
+}
+
+/* So many lock bytes, that far apart, one of them maybe of another value. */
+static void put_locks(struct gen *g, uint8_t *at, size_t count, size_t apart)
+{
+    for (size_t i = 0; i < count; i++)
+        at[i * apart] = (uint8_t)gen_below(g, 2);
+    if (gen_chance(g, 15))
+        at[gen_below(g, (uint32_t)count) * apart] = (uint8_t)(gen_chance(g, 80) ? 2 : gen_byte(g));
+}
+
+/* Behind the 00 of an answer to 23 or 2C: as many parts as were asked for, or
+ * nearly; a block of 0 and one of 33 bytes among them. Gives how many bytes. */
+static size_t put_parts(struct gen *g, const struct ref_command *c, uint16_t code, uint8_t *at)
+{
+    static const uint8_t edges[] = { 0, 31, 32, 32, 32, 33 };
+    size_t count = c->more + 1u, head = code == 0x2C || c->option ? 1 : 0;
+    size_t size = code == 0x2C ? 0 : gen_chance(g, 60) ? 1 + gen_below(g, 4) : one_of(g, edges, sizeof edges);
+    if (gen_chance(g, 8))
+        count = gen_chance(g, 50) ? count + 1 : gen_chance(g, 50) ? count - 1 : 1 + gen_below(g, 256);
+    fill(g, at, count * (head + size));
+    if (head == 1 && count > 0)
+        put_locks(g, at, count, head + size);
+    return count * (head + size);
 }
 
 static size_t label_answer_content(struct gen *g, const struct gen_command *c, uint8_t *at)
@@ -1108,6 +1198,8 @@ static size_t label_answer_content(struct gen *g, const struct gen_command *c, u
         at[1] = (uint8_t)(k->option ? gen_below(g, gen_chance(g, 80) ? 2 : 4) : at[1]);
         return 1 + (k->option ? 1u : 0u) + gen_below(g, 34);
     }
+    if (names_many(code))
+        return 1 + put_parts(g, k, code, at + 1);
     if (code == 0x2B) {
         at[1] = 0x0F;
         memcpy(at + 2, c->uid, REF_UID);

@@ -9,7 +9,7 @@ enum {
     GEN_RACK_ROOM = 66000,     /* room a rack buffer must have */
     GEN_FRAME_ROOM = 70100,    /* room a frame buffer must have */
     GEN_DRAWS_ROOM = 80,
-    GEN_ANSWER_ROOM = 320,     /* no event asks for a longer answer buffer */
+    GEN_ANSWER_ROOM = 8800,    /* no event asks for a longer answer buffer */
     GEN_DATA_ROOM = 64
 };
 
@@ -35,6 +35,8 @@ size_t gen_rack(struct gen *g, uint8_t *rack);
 /* Is this tag a chip whose bytes would all pass for a label's in state 1 or
  * 3? Racks are made with some, and some of those have a label's UID. */
 int gen_like_label(const uint8_t *rack, size_t entry);
+/* One or two labels of 256 blocks of 32 bytes, whose answers are the longest. */
+size_t gen_long_rack(struct gen *g, uint8_t *rack);
 /* A well-formed rack of exactly 65,536 bytes. */
 size_t gen_full_rack(struct gen *g, uint8_t *rack);
 /* All in order but the size: longer than 65,536 bytes, or more than 64 tags

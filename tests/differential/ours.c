@@ -29,7 +29,7 @@ int other_event(uint8_t *rack, size_t rack_len, uint8_t number, const uint8_t *f
 int other_well_formed(const uint8_t *rack, size_t rack_len)
 {
     static const uint8_t draws[255];
-    uint8_t answer[64];
+    uint8_t answer[REF_ANSWER];
     uint8_t *copy = malloc(rack_len ? rack_len : 1);
     if (!copy)
         exit(2);
@@ -57,7 +57,7 @@ static struct sackbutflare_command command_of(const struct ref_command *c)
     struct sackbutflare_command own = {
         .kind = c->kind, .target = c->target, .option = c->option != 0, .sixteen = c->sixteen != 0,
         .afi_given = c->afi_present != 0, .afi = c->afi, .mask_bits = c->mask_bits, .byte = c->byte,
-        .code = c->code, .mask = c->mask
+        .code = c->code, .mask = c->mask, .more = c->more
     };
     return own;
 }
@@ -78,12 +78,13 @@ int other_write_request(const struct ref_command *command, const uint8_t *uid, c
     return w.number;
 }
 
-/* The reference has one meaning for a block with and without its lock byte. */
+/* The reference has one meaning for blocks with and without their lock bytes. */
 static uint8_t meaning_of(uint8_t meaning)
 {
     static const uint8_t means[] = {
         REF_MEANS_NOTHING, REF_MEANS_ERROR, REF_MEANS_DONE, REF_MEANS_INVENTORY, REF_MEANS_BLOCK,
-        REF_MEANS_BLOCK, REF_MEANS_SYSTEM, REF_MEANS_CHIP_ID, REF_MEANS_WORD, REF_MEANS_CHIP_UID
+        REF_MEANS_BLOCK, REF_MEANS_SYSTEM, REF_MEANS_CHIP_ID, REF_MEANS_WORD, REF_MEANS_CHIP_UID,
+        REF_MEANS_BLOCKS, REF_MEANS_BLOCKS, REF_MEANS_LOCKS
     };
     return meaning < sizeof means ? means[meaning] : 255;
 }
@@ -96,9 +97,10 @@ int other_read_answer(const struct ref_command *command, const uint8_t *uid, siz
     /* The reference also says where a chip's block stands, always the first four
      * bytes. The face must leave 0 there, which would else go unseen. */
     int word = t.meaning == SACKBUTFLARE_WORD && t.place == 0 && t.length == 0;
-    /* And the two meanings of a block must follow Option. */
-    int kept = (t.meaning != SACKBUTFLARE_BLOCK || !command->option)
-        && (t.meaning != SACKBUTFLARE_LOCKED_BLOCK || command->option);
+    /* And the two meanings must follow Option. */
+    int plain = t.meaning == SACKBUTFLARE_BLOCK || t.meaning == SACKBUTFLARE_BLOCKS;
+    int locked = t.meaning == SACKBUTFLARE_LOCKED_BLOCK || t.meaning == SACKBUTFLARE_LOCKED_BLOCKS;
+    int kept = command->option ? !plain : !locked;
     memset(out, 0, sizeof *out);
     out->number = t.number;
     out->meaning = kept ? meaning_of(t.meaning) : 255;
@@ -111,6 +113,7 @@ int other_read_answer(const struct ref_command *command, const uint8_t *uid, siz
     out->lock = t.lock;
     out->place = (uint32_t)t.place;
     out->length = word ? 4 : (uint32_t)t.length;
+    out->count = (uint32_t)t.count;
     out->chip_id = t.id;
     out->word = t.word;
     for (int i = 0; i < REF_UID; i++)

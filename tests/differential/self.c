@@ -1,5 +1,6 @@
 /* self.c - tests of the reference, with expectations written by hand from the
- * paper (document 01), the published vectors, and the list of traps Q1 to Q69.
+ * paper (document 01, and P1 and P2 of document 02), the published vectors, and
+ * the list of traps Q1 to Q69.
  * Check sums in what is expected are either literal or made by the program of
  * appendix A of source 001, never by the reference. */
 #include "reference.h"
@@ -168,15 +169,17 @@ static int well(void)
 
 /* --------------------------------------------------------------- events */
 
+enum { ANSWER = 8451 };                /* the least that an answer buffer may have */
+
 static uint8_t draws[80];
-static uint8_t answer[100];
+static uint8_t answer[ANSWER + 50];
 static struct ref_report report;
 
 static void event(uint8_t number, const uint8_t *frame, size_t len)
 {
     memset(answer, 0xA5, sizeof answer);
     memset(&report, 0xEE, sizeof report);
-    int back = ref_event(rack, rack_len, number, frame, len, draws, rack[1], answer, 64, &report);
+    int back = ref_event(rack, rack_len, number, frame, len, draws, rack[1], answer, ANSWER, &report);
     CHECK(back == (int)report.number);
 }
 
@@ -341,6 +344,14 @@ static struct ref_command label_command(uint16_t code, uint8_t target, uint8_t b
     return c;
 }
 
+/* 23 or 2C: so many blocks behind the first. */
+static struct ref_command many(uint16_t code, uint8_t target, uint8_t first, uint8_t more)
+{
+    struct ref_command c = label_command(code, target, first);
+    c.more = more;
+    return c;
+}
+
 static struct ref_command inventory(uint8_t sixteen, uint8_t bits, uint64_t mask)
 {
     struct ref_command c = label_command(0x01, 0, 0);
@@ -420,8 +431,8 @@ static int all_zero_but_number(void)
     static const uint8_t zeros[8];
     return reading.meaning == 0 && reading.error == 0 && reading.dsfid == 0 && reading.afi == 0
         && reading.blocks == 0 && reading.size == 0 && reading.ic == 0 && reading.lock == 0
-        && reading.place == 0 && reading.length == 0 && reading.chip_id == 0
-        && reading.word == 0 && memcmp(reading.uid, zeros, 8) == 0;
+        && reading.place == 0 && reading.length == 0 && reading.count == 0
+        && reading.chip_id == 0 && reading.word == 0 && memcmp(reading.uid, zeros, 8) == 0;
 }
 
 static uint32_t read_frame(struct ref_command c, size_t data_len, const uint8_t *frame, size_t len)
@@ -639,18 +650,18 @@ static void q1_lowest_number_wins(void)
     one_label();
     finish();
     memset(answer, 0xA5, sizeof answer);
-    ref_event(rack, rack_len, 9, NULL, 0, draws, 1, answer, 63, &report);
+    ref_event(rack, rack_len, 9, NULL, 0, draws, 1, answer, ANSWER - 1, &report);
     REFUSED(3);
-    ref_event(rack, rack_len, 0, NULL, 0, draws, 1, answer, 64, &report);
+    ref_event(rack, rack_len, 0, NULL, 0, draws, 1, answer, ANSWER, &report);
     REFUSED(4);
     ref_event(rack, rack_len, 6, NULL, 0, draws, 1, NULL, 0, &report);
     REFUSED(3);
-    ref_event(rack, rack_len, 9, NULL, 0, draws, 2, answer, 63, &report);
+    ref_event(rack, rack_len, 9, NULL, 0, draws, 2, answer, ANSWER - 1, &report);
     REFUSED(2);
-    ref_event(rack, rack_len - 1, 9, NULL, 0, draws, 2, answer, 63, &report);
+    ref_event(rack, rack_len - 1, 9, NULL, 0, draws, 2, answer, ANSWER - 1, &report);
     REFUSED(1);
-    CHECK(write_with(label_command(0x23, 0, 0), "", 63) == 3);
-    CHECK(write_with(label_command(0x23, 0, 0), "", 64) == 7);
+    CHECK(write_with(label_command(0x24, 0, 0), "", 63) == 3);
+    CHECK(write_with(label_command(0x24, 0, 0), "", 64) == 7);
     CHECK(write_with(label_command(0x2B, 0, 0), "", 63) == 3);
 }
 
@@ -665,7 +676,7 @@ static void q2_n_counts_all_tags(void)
     walk_with(0, 0, 512);
     CHECK(walk_gave(1, 0));
     memset(answer, 0xA5, sizeof answer);
-    ref_event(rack, rack_len, 2, NULL, 0, NULL, 0, answer, 64, &report);
+    ref_event(rack, rack_len, 2, NULL, 0, NULL, 0, answer, ANSWER, &report);
     REFUSED(2);
 }
 
@@ -1499,7 +1510,7 @@ static void q33_twins_are_both_owners(void)
 
 static void q34_unknown_codes(void)
 {
-    static const char *codes[] = { "00", "03", "1F", "23", "24", "2C", "2D", "9F", "A0", "DF", "E0", "FF" };
+    static const char *codes[] = { "00", "03", "1F", "24", "2D", "9F", "A0", "DF", "E0", "FF" };
     for (size_t i = 0; i < sizeof codes / sizeof codes[0]; i++) {
         char text[60];
         one_label();
@@ -1521,9 +1532,9 @@ static void q34_unknown_codes(void)
     one_label()[14] = 3;
     label(9, 1, 1);
     finish();
-    lab("12 23");
+    lab("12 24");
     ERROR_01();
-    lab("02 23");
+    lab("02 24");
     COLLISION(2);
 }
 
@@ -1699,7 +1710,7 @@ static void q43_select_flag_carries_no_uid(void)
     SILENCE();
 }
 
-static void q44_only_20_takes_option(void)
+static void q44_only_20_and_23_take_option(void)
 {
     one_label()[14] = 3;
     bodies[0][33] = 1;                                   /* block 1 locked */
@@ -1720,6 +1731,8 @@ static void q44_only_20_takes_option(void)
     ERROR("03");
     lab("42 22 00");
     ERROR("03");
+    lab("42 2C 00 00");
+    ERROR("03");
     lab("42 20 00");
     SAYS_PLUS("00 00 00 01 02 03");
     lab("42 20 01");
@@ -1727,6 +1740,8 @@ static void q44_only_20_takes_option(void)
     lab("52 20 01");
     SAYS_PLUS("00 01 10 11 12 13");
     lab("62 20 " U " 01");
+    SAYS_PLUS("00 01 10 11 12 13");
+    lab("42 23 01 00");
     SAYS_PLUS("00 01 10 11 12 13");
     lab("42 20 04");
     ERROR("10");
@@ -1827,6 +1842,225 @@ static void annex_c_frame(void)
     SAYS_PLUS("00 B0 B1 B2 B3");
     raw(3, "22 20 01 23 45 67 89 AB 04 E0 0B BA E3");
     SILENCE();
+}
+
+/* ================================================= several blocks, P2 of 02 */
+
+static void p2_23_reads_blocks(void)
+{
+    one_label()[33] = 1;                                 /* block 1 locked */
+    finish();
+    lab("02 23 00 00");
+    SAYS_PLUS("00 00 01 02 03");
+    lab("02 23 03 00");
+    SAYS_PLUS("00 30 31 32 33");
+    lab("02 23 01 01");                                  /* locked blocks can be read */
+    SAYS_PLUS("00 10 11 12 13 20 21 22 23");
+    lab("02 23 00 03");
+    SAYS_PLUS("00 00 01 02 03 10 11 12 13 20 21 22 23 30 31 32 33");
+    lab("42 23 00 00");
+    SAYS_PLUS("00 00 00 01 02 03");
+    lab("42 23 01 02");
+    SAYS_PLUS("00 01 10 11 12 13 00 20 21 22 23 00 30 31 32 33");
+    lab("42 23 00 03");
+    SAYS_PLUS("00 00 00 01 02 03 01 10 11 12 13 00 20 21 22 23 00 30 31 32 33");
+    CHECK(unchanged());
+}
+
+static void p2_2c_tells_lock_bytes(void)
+{
+    uint8_t *b = one_label();
+    b[33] = b[35] = 1;                                   /* blocks 1 and 3 locked */
+    finish();
+    lab("02 2C 00 00");
+    SAYS_PLUS("00 00");
+    lab("02 2C 03 00");
+    SAYS_PLUS("00 01");
+    lab("02 2C 01 02");
+    SAYS_PLUS("00 01 00 01");
+    lab("02 2C 00 03");
+    SAYS_PLUS("00 00 01 00 01");
+    CHECK(unchanged());
+}
+
+static void p2_a_block_past_the_end(void)
+{
+    static const char *past[] = { "00 04", "01 03", "03 01", "04 00", "05 00", "FF 00", "00 FF", "01 FF", "02 FF", "FF 01",
+        "FF FF", "80 80" };
+    static const char *frames[] = { "02 23 %s", "42 23 %s", "02 2C %s", "22 23 " U " %s", "62 23 " U " %s", "22 2C " U " %s" };
+    one_label();
+    finish();
+    for (size_t i = 0; i < sizeof past / sizeof past[0]; i++)
+        for (size_t k = 0; k < sizeof frames / sizeof frames[0]; k++) {
+            char text[60];
+            snprintf(text, sizeof text, frames[k], past[i]);
+            lab(text);
+            ERROR("10");
+        }
+    CHECK(unchanged());
+}
+
+/* All 256 numbers are there: only a sum over 255 is past the end. */
+static void p2_past_the_end_of_256(void)
+{
+    begin();
+    label(1, 256, 1);
+    finish();
+    lab("02 2C FF 00");
+    SAYS_PLUS("00 00");
+    lab("02 23 FE 01");
+    SAYS_PLUS("00 E0 F0");
+    lab("02 23 FF 01");
+    ERROR("10");
+    lab("02 2C 01 FF");
+    ERROR("10");
+    lab("02 23 FF FF");
+    ERROR("10");
+    lab("02 2C FF FF");
+    ERROR("10");
+    lab("02 23 00 FF");
+    CHECK(report.length == 259 && answer[1] == 0x00 && answer[2] == 0x10 && answer[256] == 0xF0);
+}
+
+static void p2_order_of_checks(void)
+{
+    one_label();
+    finish();
+    lab("42 2C 00 04 00");                               /* length, Option and block */
+    ERROR_02();
+    lab("42 2C 00 04");
+    ERROR("03");
+    lab("02 2C 00 04");
+    ERROR("10");
+    lab("62 2C " U " 00 00");
+    ERROR("03");
+    lab("42 23 00 04 00");
+    ERROR_02();
+    lab("42 23 00 04");                                  /* here Option is no fault */
+    ERROR("10");
+    CHECK(unchanged());
+}
+
+static void p2_lengths_are_6_and_14(void)
+{
+    static const char *wrong[] = { "02 %s", "02 %s 00", "02 %s 00 00 00", "22 %s " U, "22 %s " U " 00", "22 %s " U " 00 00 00" };
+    one_label();
+    finish();
+    for (size_t i = 0; i < sizeof wrong / sizeof wrong[0]; i++) {
+        char text[60];
+        snprintf(text, sizeof text, wrong[i], "23");
+        lab(text);
+        ERROR_02();
+        snprintf(text, sizeof text, wrong[i], "2C");
+        lab(text);
+        ERROR_02();
+    }
+    lab("22 23 " U " 02 00");
+    SAYS_PLUS("00 20 21 22 23");
+    lab("62 23 " U " 02 01");
+    SAYS_PLUS("00 00 20 21 22 23 00 30 31 32 33");
+    lab("22 2C " U " 02 01");
+    SAYS_PLUS("00 00 00");
+    CHECK(unchanged());
+}
+
+static void p2_who_acts(void)
+{
+    one_label()[14] = 2;
+    running(label(2, 1, 1), 3, 0, 0);
+    label(3, 1, 2)[14] = 3;
+    label(4, 1, 1)[14] = 0;
+    finish();
+    lab("02 23 00 00");
+    COLLISION(2);                                        /* ready and selected */
+    CHECK(no_slot(1));
+    keep();
+    lab("02 2C 00 00");
+    COLLISION(2);
+    lab("12 23 00 00");
+    SAYS_PLUS("00 00 01");
+    lab("12 2C 00 00");
+    SAYS_PLUS("00 00");
+    lab("22 23 " U " 00 01");                            /* quiet, and addressed */
+    SAYS_PLUS("00 00 01 02 03 10 11 12 13");
+    lab("22 2C " U " 00 01");
+    SAYS_PLUS("00 00 00");
+    lab("22 23 04 00 00 00 00 00 00 00 00 00");          /* off */
+    SILENCE();
+    lab("22 2C " OTHER " 00 00");
+    SILENCE();
+    lab("32 23 " U " 00 00");                            /* Select and Address */
+    SILENCE();
+    lab("06 23 00 00");                                  /* Inventory flag */
+    SILENCE();
+    raw(3, "02 23 00 00 00 00");                         /* check sum */
+    SILENCE();
+    CHECK(unchanged());
+}
+
+/* A label of 256 blocks of 32 bytes, every third block locked. */
+static void biggest_label(uint64_t uid)
+{
+    uint8_t *b = label(uid, 256, 32);
+    for (unsigned i = 0; i < 256; i += 3)
+        b[32 + i] = 1;
+}
+
+static void p2_the_longest_answer(void)
+{
+    static uint8_t wanted[ANSWER];
+    size_t at = 1;
+    begin();
+    biggest_label(1);
+    finish();
+    for (unsigned b = 0; b < 256; b++) {
+        wanted[at++] = b % 3 == 0;
+        for (unsigned k = 0; k < 32; k++)
+            wanted[at++] = (uint8_t)(16 * b + k);
+    }
+    lab("42 23 00 FF");
+    CHECK(add_appendix_a(wanted, at) == ANSWER && answered_bytes(wanted, ANSWER));
+    CHECK(answer[1] == 1 && answer[34] == 0 && answer[35] == 0x10 && answer[8416] == 1 && answer[8448] == 0x0F);
+    lab("02 23 00 FF");
+    CHECK(report.answered == 1 && report.length == 8195 && answer[1] == 0 && answer[33] == 0x10 && answer[8192] == 0x0F);
+    lab("02 2C 00 FF");
+    CHECK(report.answered == 1 && report.length == 259 && answer[1] == 1 && answer[2] == 0 && answer[4] == 1 && answer[256] == 1);
+    CHECK(unchanged());
+}
+
+static void p2_two_of_the_longest_collide(void)
+{
+    begin();
+    biggest_label(1);
+    biggest_label(2);
+    finish();
+    lab("42 23 00 FF");
+    COLLISION(2);
+    lab("02 2C 00 FF");
+    COLLISION(2);
+    lab("62 23 02 00 00 00 00 00 00 00 00 FF");
+    CHECK(report.answered == 1 && report.length == ANSWER);
+    CHECK(unchanged());
+}
+
+/* Whatever is asked: the buffer must hold the longest answer of all. */
+static void p2_refusal_3_of_every_event(void)
+{
+    static const size_t under[] = { 0, 1, 63, 64, 8195, ANSWER - 1 };
+    one_label();
+    finish();
+    for (uint8_t number = 0; number <= 6; number++)
+        for (size_t i = 0; i < sizeof under / sizeof under[0]; i++) {
+            memset(answer, 0xA5, sizeof answer);
+            ref_event(rack, rack_len, number, NULL, 0, draws, 1, answer, under[i], &report);
+            REFUSED(3);
+        }
+    for (uint8_t number = 1; number <= 5; number++) {
+        event(number, NULL, 0);
+        SILENCE();
+    }
+    ref_event(rack, rack_len, 3, (const uint8_t *)"\x02\x2B\x26\xA3", 4, draws, 1, answer, sizeof answer, &report);
+    CHECK(report.number == 0 && report.answered == 1 && report.length == 17 && untouched_from(17));
 }
 
 /* ======================================================== chips, Q46 to Q56 */
@@ -2354,8 +2588,8 @@ static void q63_what_is_no_request(void)
 {
     struct ref_command c;
     for (unsigned code = 0; code <= 0x700; code++) {     /* label codes */
-        int known = code == 0x01 || code == 0x02 || (code >= 0x20 && code <= 0x22)
-            || (code >= 0x25 && code <= 0x2B);
+        int known = code == 0x01 || code == 0x02 || (code >= 0x20 && code <= 0x23)
+            || (code >= 0x25 && code <= 0x2C);
         uint8_t target = code == 0x02 || code == 0x25 ? 2 : 0;
         CHECK((write_with(label_command((uint16_t)code, target, 1), "00", 64) == 0) == known);
     }
@@ -2383,8 +2617,8 @@ static void q63_what_is_no_request(void)
 static void q63_option_data_slot_and_address(void)
 {
     CHECK(!not_a_request(with_option(label_command(0x20, 0, 0)), ""));
-    for (unsigned code = 1; code <= 0x2B; code++)
-        if (code != 0x20) {
+    for (unsigned code = 1; code <= 0x2C; code++)
+        if (code != 0x20 && code != 0x23) {
             uint8_t target = code == 0x02 || code == 0x25 ? 2 : 0;
             CHECK(not_a_request(with_option(label_command((uint16_t)code, target, 0)), "00"));
         }
@@ -2479,7 +2713,7 @@ static void q66_block_answers(void)
     struct ref_command plain = label_command(0x20, 0, 255), option = with_option(plain);
     CHECK(reads(plain, "00 AA") == 0);
     CHECK(reading.meaning == REF_MEANS_BLOCK && reading.place == 1 && reading.length == 1);
-    CHECK(reading.lock == 0);
+    CHECK(reading.lock == 0 && reading.count == 0);
     CHECK(reads(plain, "00 " U U U U) == 0 && reading.length == 32 && reading.place == 1);
     CHECK(reads(plain, "00 " U U U U " 00") == 9);
     CHECK(reads(plain, "00") == 9);
@@ -2548,7 +2782,7 @@ static void q66_chip_answers(void)
 
 static void q67_error_frames(void)
 {
-    static const uint8_t codes[] = { 0x20, 0x21, 0x22, 0x25, 0x26, 0x27, 0x28, 0x29, 0x2A, 0x2B };
+    static const uint8_t codes[] = { 0x20, 0x21, 0x22, 0x23, 0x25, 0x26, 0x27, 0x28, 0x29, 0x2A, 0x2B, 0x2C };
     for (size_t i = 0; i < sizeof codes; i++)
         for (unsigned e = 0; e < 256; e++) {
             char text[8];
@@ -2566,7 +2800,7 @@ static void q67_error_frames(void)
 
 static void q68_order_7_8_9(void)
 {
-    CHECK(reads_raw(label_command(0x23, 0, 0), "00 00") == 7);
+    CHECK(reads_raw(label_command(0x24, 0, 0), "00 00") == 7);
     CHECK(reads_raw(label_command(0x2B, 0, 0), "00 00") == 8);
     CHECK(reads_raw(label_command(0x2B, 0, 0), "") == 8);
     CHECK(reads_raw(label_command(0x26, 0, 0), "00 78 F1") == 8);
@@ -2589,6 +2823,124 @@ static void q69_refusals_are_zero_beside_the_number(void)
     CHECK(reads(inventory(1, 4, 0x5), "00 77 " U) == 9 && all_zero_but_number());
     CHECK(reads(with_option(label_command(0x20, 0, 0)), "00 02 AA BB") == 9 && all_zero_but_number());
     CHECK(reads(chip_command(REF_SELECT, 2), "03") == 9 && all_zero_but_number());
+}
+
+static void p2_requests(void)
+{
+    struct ref_command c;
+    CHECK(writes_plus(many(0x23, 0, 0, 0xFF), "", "02 23 00 FF"));
+    CHECK(writes_plus(many(0x23, 1, 7, 2), "", "12 23 07 02"));
+    CHECK(writes_plus(many(0x23, 2, 7, 2), "", "22 23 " U " 07 02"));
+    CHECK(writes_plus(with_option(many(0x23, 0, 1, 0)), "", "42 23 01 00"));
+    CHECK(writes_plus(with_option(many(0x23, 2, 1, 0)), "", "62 23 " U " 01 00"));
+    CHECK(writes_plus(many(0x2C, 0, 0xFF, 0), "", "02 2C FF 00"));
+    CHECK(writes_plus(many(0x2C, 1, 0x80, 0x7F), "", "12 2C 80 7F"));
+    CHECK(writes_plus(many(0x2C, 2, 3, 4), "", "22 2C " U " 03 04"));
+    for (unsigned first = 0; first < 256; first++)
+        for (unsigned more = 0; more < 256; more++) {
+            c = many(first % 2 ? 0x23 : 0x2C, 0, (uint8_t)first, (uint8_t)more);
+            CHECK(not_a_request(c, "") == (first + more > 255));
+        }
+    for (uint8_t target = 0; target < 4; target++) {
+        CHECK(not_a_request(many(0x23, target, 0, 0), "") == (target > 2));
+        CHECK(not_a_request(many(0x2C, target, 0, 0), "") == (target > 2));
+        CHECK(not_a_request(with_option(many(0x2C, target, 0, 0)), ""));
+    }
+    CHECK(writes_plus(many(0x20, 0, 0xFF, 0xFF), "", "02 20 FF"));             /* 20 has no count */
+    CHECK(writes_plus(many(0x2B, 0, 0xFF, 0xFF), "", "02 2B"));
+}
+
+/* A frame of 00 and so many bytes behind it, of which those so far apart are 1. */
+static uint32_t reads_long(struct ref_command c, size_t len, size_t apart)
+{
+    static uint8_t bytes[9000];
+    memset(bytes, 0, sizeof bytes);
+    for (size_t i = 0; i < len; i += apart)
+        bytes[1 + i] = 1;
+    return read_frame(c, 0, bytes, add_appendix_a(bytes, 1 + len));
+}
+
+static int told_many(uint8_t meaning, uint32_t length, uint32_t number_of_blocks)
+{
+    return reading.meaning == meaning && reading.place == 1 && reading.length == length && reading.count == number_of_blocks
+        && reading.lock == 0 && reading.blocks == 0 && reading.size == 0;
+}
+
+static void p2_answers_to_23(void)
+{
+    struct ref_command one = many(0x23, 2, 9, 0), three = many(0x23, 0, 1, 2), all = many(0x23, 1, 0, 255);
+    CHECK(reads(one, "00 AA") == 0 && told_many(REF_MEANS_BLOCKS, 1, 1));
+    CHECK(reads(one, "00 " U U U U) == 0 && told_many(REF_MEANS_BLOCKS, 32, 1));
+    CHECK(reads(one, "00 " U U U U " 00") == 9);                               /* a block of 33 */
+    CHECK(reads(one, "00") == 9);
+    CHECK(reads(three, "00 01 02 03") == 0 && told_many(REF_MEANS_BLOCKS, 1, 3));
+    CHECK(reads(three, "00 FF FF FF FF FF FF") == 0 && told_many(REF_MEANS_BLOCKS, 2, 3));
+    CHECK(reads(three, "00 01 02") == 9);
+    CHECK(reads(three, "00 01 02 03 04") == 9);
+    CHECK(reads(three, "00") == 9);
+    CHECK(reads(three, "01 01 02 03") == 9);
+    CHECK(reads(three, "02 01 02 03") == 9);
+    CHECK(reads(three, "01 10") == 0 && reading.meaning == REF_MEANS_ERROR && reading.error == 0x10);
+    CHECK(reads_long(three, 96, 1) == 0 && told_many(REF_MEANS_BLOCKS, 32, 3));
+    CHECK(reads_long(three, 99, 1) == 9);
+    CHECK(reads_long(all, 256, 1) == 0 && told_many(REF_MEANS_BLOCKS, 1, 256));
+    CHECK(reads_long(all, 8192, 1) == 0 && told_many(REF_MEANS_BLOCKS, 32, 256));
+    CHECK(reads_long(all, 8191, 1) == 9);
+    CHECK(reads_long(all, 8193, 1) == 9);
+    CHECK(reads_long(all, 8448, 1) == 9);
+    CHECK(reads_long(many(0x23, 1, 0, 254), 8192, 1) == 9);                    /* one block fewer was asked for */
+}
+
+static void p2_answers_to_23_with_option(void)
+{
+    struct ref_command one = with_option(many(0x23, 2, 9, 0)), two = with_option(many(0x23, 0, 1, 1)), all = with_option(many(0x23, 1, 0, 255));
+    CHECK(reads(one, "00 01 AA") == 0 && told_many(REF_MEANS_BLOCKS, 1, 1));
+    CHECK(reads(one, "00 00 " U U U U) == 0 && told_many(REF_MEANS_BLOCKS, 32, 1));
+    CHECK(reads(one, "00 00 " U U U U " 00") == 9);
+    CHECK(reads(one, "00 01") == 9);                                           /* a block of 0 */
+    CHECK(reads(one, "00 02 AA") == 9);
+    CHECK(reads(two, "00 00 AA 01 BB") == 0 && told_many(REF_MEANS_BLOCKS, 1, 2));
+    CHECK(reads(two, "00 01 AA AA 00 BB BB") == 0 && told_many(REF_MEANS_BLOCKS, 2, 2));
+    CHECK(reads(two, "00 00 AA 02 BB") == 9);
+    CHECK(reads(two, "00 02 AA 00 BB") == 9);
+    CHECK(reads(two, "00 00 01") == 9);
+    CHECK(reads(two, "00 00 01 00") == 9);
+    CHECK(reads(two, "00 00 AA AA 00 BB") == 9);
+    CHECK(reads(two, "01 02") == 0 && reading.meaning == REF_MEANS_ERROR);
+    CHECK(reads_long(all, 8448, 33) == 0 && told_many(REF_MEANS_BLOCKS, 32, 256));
+    CHECK(reads_long(all, 512, 2) == 0 && told_many(REF_MEANS_BLOCKS, 1, 256));
+    CHECK(reads_long(all, 256, 1) == 9);
+    CHECK(reads_long(all, 8704, 34) == 9);
+    CHECK(reads_long(all, 8447, 33) == 9);
+}
+
+static void p2_answers_to_2c(void)
+{
+    struct ref_command one = many(0x2C, 2, 9, 0), three = many(0x2C, 0, 1, 2), all = many(0x2C, 1, 0, 255);
+    CHECK(reads(one, "00 00") == 0 && told_many(REF_MEANS_LOCKS, 1, 1));
+    CHECK(reads(one, "00 01") == 0 && told_many(REF_MEANS_LOCKS, 1, 1));
+    CHECK(reads(one, "00 02") == 9);
+    CHECK(reads(one, "00") == 9);
+    CHECK(reads(one, "00 00 00") == 9);
+    CHECK(reads(one, "01 01") == 0 && reading.meaning == REF_MEANS_ERROR && reading.error == 1 && reading.count == 0);
+    CHECK(reads(one, "01 00") == 9);
+    CHECK(reads(three, "00 01 00 01") == 0 && told_many(REF_MEANS_LOCKS, 1, 3));
+    CHECK(reads(three, "00 01 00 02") == 9);
+    CHECK(reads(three, "00 01 00") == 9);
+    CHECK(reads(three, "00 01 00 01 00") == 9);
+    CHECK(reads(three, "00 01 00 01 00 01 00") == 9);
+    CHECK(reads_long(all, 256, 1) == 0 && told_many(REF_MEANS_LOCKS, 1, 256));
+    CHECK(reads_long(all, 255, 1) == 9);
+    CHECK(reads_long(all, 257, 1) == 9);
+}
+
+static void p2_order_7_8_9(void)
+{
+    CHECK(reads_raw(many(0x23, 0, 255, 1), "00 78 F1") == 7);
+    CHECK(reads_raw(with_option(many(0x2C, 0, 0, 0)), "00 00") == 7);
+    CHECK(reads_raw(many(0x23, 0, 0, 0), "00 78 F1") == 8);
+    CHECK(reads_raw(many(0x2C, 0, 0, 0), "") == 8);
+    CHECK(reads_raw(many(0x2C, 0, 0, 0), "00 78 F0") == 9);
 }
 
 /* ==================================================================== slips */
@@ -2640,9 +2992,13 @@ static const struct { const char *name; void (*run)(void); } TESTS[] = {
     TEST(q38_ill_formed_select_for_another), TEST(q39_select_for_the_owner),
     TEST(q40_select_is_12_bytes_in_all),
     TEST(q41_order_of_checks), TEST(q42_length_of_a_write_is_the_labels_own),
-    TEST(q43_select_flag_carries_no_uid), TEST(q44_only_20_takes_option),
+    TEST(q43_select_flag_carries_no_uid), TEST(q44_only_20_and_23_take_option),
     TEST(q45_afi_and_dsfid_run_crosswise), TEST(q45_dsfid_lock_alone), TEST(read_write_lock_a_block),
     TEST(last_block_of_256), TEST(annex_c_frame),
+    TEST(p2_23_reads_blocks), TEST(p2_2c_tells_lock_bytes), TEST(p2_a_block_past_the_end),
+    TEST(p2_past_the_end_of_256), TEST(p2_order_of_checks), TEST(p2_lengths_are_6_and_14),
+    TEST(p2_who_acts), TEST(p2_the_longest_answer), TEST(p2_two_of_the_longest_collide),
+    TEST(p2_refusal_3_of_every_event),
     TEST(q46_low_half_of_255_stays), TEST(q47_lock_at_once), TEST(every_lock_bit_locks_its_block),
     TEST(q48_reload_only_by_a_real_change), TEST(q49_reload_is_for_the_addressed_block_alone),
     TEST(q50_select_own_id), TEST(q51_select_other_id), TEST(q52_pcall16),
@@ -2656,7 +3012,8 @@ static const struct { const char *name; void (*run)(void); } TESTS[] = {
     TEST(q65_mask_rules), TEST(q66_inventory_answers), TEST(q66_commands_without_answer),
     TEST(q66_block_answers), TEST(q66_plain_answers), TEST(q66_system_answers),
     TEST(q66_chip_answers), TEST(q67_error_frames), TEST(q68_order_7_8_9),
-    TEST(q69_refusals_are_zero_beside_the_number), TEST(slips_of_the_bought_rack)
+    TEST(q69_refusals_are_zero_beside_the_number), TEST(p2_requests), TEST(p2_answers_to_23),
+    TEST(p2_answers_to_23_with_option), TEST(p2_answers_to_2c), TEST(p2_order_7_8_9), TEST(slips_of_the_bought_rack)
 };
 
 int main(void)

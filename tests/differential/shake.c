@@ -12,6 +12,7 @@ static struct gen g;
 static unsigned long passed, failed;
 static uint64_t seed_now;
 static unsigned long seen[8];          /* what kinds of outcome came up */
+static uint32_t longest;               /* answer */
 
 static void law_at(int line, int holds, const char *what)
 {
@@ -70,9 +71,9 @@ static void law_of_parts(const uint8_t *before, const uint8_t *after, const stru
     uint32_t answered = 0;
     for (size_t i = 0; i < before[1]; i++) {
         struct ref_report part;
-        uint8_t said[64];
+        uint8_t said[REF_ANSWER];
         size_t len = alone(before, i, single);
-        LAW(ref_event(single, len, e->number, e->frame, e->frame_len, e->draws + i, 1, said, 64, &part) == 0);
+        LAW(ref_event(single, len, e->number, e->frame, e->frame_len, e->draws + i, 1, said, sizeof said, &part) == 0);
         LAW(memcmp(single + 10, after + ref_rack_offset(after, i), len - 10) == 0);
         answered += part.answered;
         if (part.answered && whole->answered == 1)
@@ -83,7 +84,13 @@ static void law_of_parts(const uint8_t *before, const uint8_t *after, const stru
 
 static int expected_refusal(const struct gen_event *e, size_t n)
 {
-    return e->draws_len != n ? 2 : e->answer_len < 64 ? 3 : e->number < 1 || e->number > 5 ? 4 : 0;
+    return e->draws_len != n ? 2 : e->answer_len < 8451 ? 3 : e->number < 1 || e->number > 5 ? 4 : 0;
+}
+
+/* Whether several blocks were asked for: no other answer is over 36 bytes. */
+static int asks_for_many(const struct gen_event *e)
+{
+    return e->number == REF_LABEL_FRAME && e->frame_len >= 6 && (e->frame[1] == 0x23 || e->frame[1] == 0x2C);
 }
 
 static void laws_of_success(const uint8_t *before, const uint8_t *after, size_t len,
@@ -91,7 +98,8 @@ static void laws_of_success(const uint8_t *before, const uint8_t *after, size_t 
 {
     LAW(ref_well_formed(after, len));
     LAW(memcmp(before, after, 2 + 8 * (size_t)before[1]) == 0);
-    LAW((r->answered == 1) == (r->length > 0) && r->length <= 36);
+    LAW((r->answered == 1) == (r->length > 0) && r->length <= (asks_for_many(e) ? 8451 : 36));
+    longest = r->length > longest ? r->length : longest;
     LAW(all_a5(answer, r->length, e->answer_len));
     LAW(r->length == 0 || ref_check_right(answer, r->length));
     seen[r->answered > 1 ? 2 : r->answered]++;
@@ -127,14 +135,14 @@ static void damage_laws(const uint8_t *rack, size_t len, const struct gen_event 
     struct ref_walked w;
     memcpy(bad, rack, len);
     size_t bad_len = gen_damage(&g, bad, len);
-    uint8_t *own = copy(bad, bad_len), *answer = room(64), *list = room(512);
+    uint8_t *own = copy(bad, bad_len), *answer = room(8451), *list = room(512);
     int well = ref_well_formed(own, bad_len);
     seen[well ? 4 : 5]++;
     int back = ref_event(own, bad_len, e->number, e->frame, e->frame_len, e->draws, e->draws_len,
-                         answer, 64, &r);
+                         answer, 8451, &r);
     LAW(well ? back != 1 : back == 1);
     if (back)
-        LAW(memcmp(own, bad, bad_len) == 0 && all_a5(answer, 0, 64) && !r.answered && !r.length);
+        LAW(memcmp(own, bad, bad_len) == 0 && all_a5(answer, 0, 8451) && !r.answered && !r.length);
     memcpy(own, bad, bad_len);
     back = ref_walk(own, bad_len, 0, 0, list, 512, &w);
     LAW(well ? back == 0 || back == 6 : back == 1);
@@ -249,6 +257,20 @@ static void walk_laws(const uint8_t *rack, size_t len)
 
 /* -------------------------------------------------------------- reader's side */
 
+/* The memory of a label of 256 blocks, as the frame tells of it. */
+static void witness_blocks(const struct gen_command *c, const struct ref_reading *r, const uint8_t *frame, uint8_t *b)
+{
+    size_t head = r->meaning == REF_MEANS_BLOCKS && c->command.option ? 1 : 0;
+    for (size_t i = 0; i < r->count; i++) {
+        const uint8_t *part = frame + r->place + i * (head + r->length);
+        size_t block = c->command.byte + i;
+        if (head == 1 || r->meaning == REF_MEANS_LOCKS)
+            b[32 + block] = part[0];
+        if (r->meaning == REF_MEANS_BLOCKS)
+            memcpy(b + 32 + 256 + block * r->length, part + head, r->length);
+    }
+}
+
 /* A well-formed rack of one tag that should give this answer: the reader said
  * that there is one. */
 static size_t witness_label(const struct gen_command *c, const struct ref_reading *r,
@@ -279,6 +301,7 @@ static size_t witness_label(const struct gen_command *c, const struct ref_readin
         b[32 + c->command.byte] = r->lock;
         memcpy(b + 32 + 256 + (size_t)c->command.byte * size, frame + r->place, size);
     }
+    witness_blocks(c, r, frame, b);
     return 10 + len;
 }
 
@@ -304,15 +327,15 @@ static void law_of_witness(const struct gen_command *c, const struct ref_reading
                            const uint8_t *request, size_t request_len, const uint8_t *frame, size_t len)
 {
     static uint8_t rack[9000];
-    uint8_t answer[64];
+    uint8_t answer[8451];
     struct ref_report e;
     int label = c->command.kind == REF_KIND_LABEL, found = 0;
     size_t rack_len = label ? witness_label(c, r, frame, rack) : witness_chip(c, r, rack);
     LAW(ref_well_formed(rack, rack_len));
-    ref_event(rack, rack_len, label ? 3 : 5, request, request_len, &r->chip_id, 1, answer, 64, &e);
+    ref_event(rack, rack_len, label ? 3 : 5, request, request_len, &r->chip_id, 1, answer, sizeof answer, &e);
     for (int slot = 0; slot < 16 && !found; slot++) {
         found = e.number == 0 && e.answered == 1 && e.length == len && !memcmp(answer, frame, len);
-        ref_event(rack, rack_len, 4, NULL, 0, &r->chip_id, 1, answer, 64, &e);
+        ref_event(rack, rack_len, 4, NULL, 0, &r->chip_id, 1, answer, sizeof answer, &e);
     }
     LAW(found);
 }
@@ -350,7 +373,7 @@ static void law_of_reading(const uint8_t *rack, size_t len)
     struct ref_written w;
     struct ref_reading r;
     struct ref_report e;
-    uint8_t out[64], answer[64], draws[64];
+    uint8_t out[64], answer[8451], draws[64];
     gen_command(&g, &c);
     if (rack[1] && gen_chance(&g, 70))
         memcpy(c.uid, rack + ref_rack_offset(rack, gen_below(&g, rack[1])), 8);
@@ -359,13 +382,64 @@ static void law_of_reading(const uint8_t *rack, size_t len)
     uint8_t *own = copy(rack, len);
     gen_draws(&g, draws, rack[1]);
     int inventory = c.command.kind == 1 && c.command.code == 1 && c.command.sixteen;
-    ref_event(own, len, c.command.kind == 1 ? 3 : 5, out, w.length, draws, rack[1], answer, 64, &e);
+    ref_event(own, len, c.command.kind == 1 ? 3 : 5, out, w.length, draws, rack[1], answer, sizeof answer, &e);
     for (int slot = 0; slot < (inventory ? 16 : 1); slot++) {
         if (e.answered == 1)
             LAW(ref_read_answer(&c.command, c.uid, c.data_len, answer, e.length, &r) == 0);
-        ref_event(own, len, 4, NULL, 0, draws, rack[1], answer, 64, &e);
+        ref_event(own, len, 4, NULL, 0, draws, rack[1], answer, sizeof answer, &e);
     }
     free(own);
+}
+
+/* ------------------------------------------------------------- several blocks */
+
+/* What the label alone on this rack answers to a command for it; gives the
+ * length. */
+static uint32_t ask(uint8_t *single, size_t len, struct ref_command c, uint8_t *answer)
+{
+    static const uint8_t draw[1];
+    uint8_t out[64];
+    struct ref_written w;
+    struct ref_report e;
+    LAW(ref_write_request(&c, single + 10, NULL, 0, out, 64, &w) == 0);
+    LAW(ref_event(single, len, 3, out, w.length, draw, 1, answer, 8451, &e) == 0 && e.answered == 1);
+    return e.length;
+}
+
+/* A read of several blocks gives what reads of each in turn give, and 2C the
+ * lock bytes that these tell. The reader finds each where it says. */
+static void law_of_each(uint8_t *single, size_t len, uint8_t first, uint8_t more)
+{
+    static uint8_t blocks[8451], locked[8451], locks[8451], one[8451];
+    struct ref_command c = { .kind = 1, .code = 0x23, .target = REF_ONE_UID, .byte = first, .more = more };
+    struct ref_reading r;
+    uint32_t length = ask(single, len, c, blocks), size = single[10 + 12] + 1u;
+    LAW(ref_read_answer(&c, single + 10, 0, blocks, length, &r) == 0 && r.place == 1 && r.length == size && r.count == more + 1u);
+    c.option = 1;
+    length = ask(single, len, c, locked);
+    LAW(length == 3 + r.count * (1 + size));
+    longest = length > longest ? length : longest;
+    c.code = 0x2C;
+    c.option = 0;
+    LAW(ask(single, len, c, locks) == 3 + r.count);
+    c.code = 0x20;
+    c.option = 1;
+    for (uint32_t i = 0; i < r.count; i++, c.byte++) {
+        LAW(ask(single, len, c, one) == 4 + size && one[1] == locks[1 + i]);
+        LAW(!memcmp(one + 2, blocks + 1 + i * size, size) && !memcmp(one + 1, locked + 1 + i * (1 + size), 1 + size));
+    }
+}
+
+/* A label of the rack, if one comes up that is not off, and blocks that it has. */
+static void several_laws(const uint8_t *rack)
+{
+    static uint8_t single[9000];
+    size_t entry = gen_below(&g, rack[1]), len = alone(rack, entry, single);
+    if (ref_rack_kind(rack, entry) != REF_KIND_LABEL || single[10 + 14] == 0)
+        return;
+    uint32_t blocks = single[10 + 11] + 1u, first = gen_chance(&g, 50) ? 0 : gen_below(&g, blocks);
+    uint32_t last = gen_chance(&g, 50) ? blocks - 1 : first + gen_below(&g, blocks - first);
+    law_of_each(single, len, (uint8_t)first, (uint8_t)(last - first));
 }
 
 /* ----------------------------------------------------------------------- main */
@@ -376,7 +450,7 @@ static void one_rack(uint64_t seed)
     static struct gen_event e;
     seed_now = seed;
     gen_seed(&g, seed);
-    size_t len = seed % 100 == 99 ? gen_full_rack(&g, rack) : gen_rack(&g, rack);
+    size_t len = seed % 100 == 99 ? gen_full_rack(&g, rack) : seed % 20 == 13 ? gen_long_rack(&g, rack) : gen_rack(&g, rack);
     LAW(ref_well_formed(rack, len) && len <= 65536 && (seed % 100 != 99 || len == 65536));
     if (seed % 20 == 8) {
         static uint8_t over[GEN_RACK_ROOM];
@@ -392,6 +466,8 @@ static void one_rack(uint64_t seed)
             walk_laws(rack, len);
         if (gen_chance(&g, 30))
             law_of_reading(rack, len);
+        if (rack[1] && gen_chance(&g, 10))
+            several_laws(rack);
         reader_laws();
     }
 }
@@ -403,8 +479,8 @@ int main(int argc, char **argv)
     for (uint64_t i = 0; i < racks; i++)
         one_rack(first + i);
     printf("silent %lu, one answer %lu, collisions %lu, refused %lu; damaged: still well-formed %lu, "
-           "not %lu; walks %lu; answers read %lu\n", seen[0], seen[1], seen[2], seen[3], seen[4],
-           seen[5], seen[6], seen[7]);
+           "not %lu; walks %lu; answers read %lu, the longest given of %u bytes\n", seen[0], seen[1], seen[2], seen[3], seen[4],
+           seen[5], seen[6], seen[7], (unsigned)longest);
     printf("%lu passed, %lu failed\n", passed, failed);
     return failed != 0;
 }

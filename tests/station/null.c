@@ -1,5 +1,5 @@
-/* null.c - each call of the C face with null pointers and length 0, UIDs of every length, and what its structs must look like from C. Prints a line for each check that
- * fails, and `N passed, M failed` last. */
+/* null.c - each call of the C face with null pointers and length 0, UIDs of every length, and what its structs must look like from C. Prints a line for
+ * each check that fails, and `N passed, M failed` last. */
 #include "sackbutflare.h"
 
 #include <stdio.h>
@@ -18,10 +18,12 @@ static void check_at(int line, int right, const char *what)
 
 static void events(void)
 {
-    uint8_t empty[2] = { 1, 0 }, answer[64];
+    uint8_t empty[2] = { 1, 0 }, answer[8451];
     struct sackbutflare_report r = sackbutflare_event(NULL, 0, 2, NULL, 0, NULL, 0, NULL, 0);
     CHECK(r.number == 1 && r.answered == 0 && r.length == 0);
     r = sackbutflare_event(empty, sizeof empty, 2, NULL, 0, NULL, 0, NULL, 0);
+    CHECK(r.number == 3 && r.answered == 0 && r.length == 0);
+    r = sackbutflare_event(empty, sizeof empty, 1, NULL, 0, NULL, 0, answer, sizeof answer - 1);
     CHECK(r.number == 3 && r.answered == 0 && r.length == 0);
     r = sackbutflare_event(empty, sizeof empty, 3, NULL, 0, NULL, 0, answer, sizeof answer);
     CHECK(r.number == 0 && r.answered == 0 && r.length == 0);
@@ -83,8 +85,8 @@ int main(void)
     uids();
     CHECK(sackbutflare_check_sum(NULL, 0) == 0);
     CHECK(sackbutflare_version() == SACKBUTFLARE_VERSION);
-    CHECK(sizeof(struct sackbutflare_command) == 24);
-    CHECK(sizeof(struct sackbutflare_told) == 40);
+    CHECK(sizeof(struct sackbutflare_command) == 32);
+    CHECK(sizeof(struct sackbutflare_told) == 48);
     printf("%d passed, %d failed\n", passed, failed);
     return failed != 0;
 }

@@ -8,7 +8,7 @@
 #include <string.h>
 #include <ucontext.h>
 
-enum { LIMIT = 4096, PAINT = 0xA5, TAGS = 64 };
+enum { LIMIT = 4096, PAINT = 0xA5, TAGS = 64, ASKED = 5 };
 enum { EVENT, WALK, WRITE_REQUEST, READ_ANSWER, CHECK_SUM, CALLS };
 
 static const char *const names[CALLS] = { "event", "walk", "write_request", "read_answer", "check_sum" };
@@ -30,7 +30,7 @@ static uint8_t *frame_of_caller;
 static ucontext_t here, there;
 
 /* What the calls take, and what they give back: a context's function has no arguments. */
-static uint8_t rack[8192], draws[TAGS], answer[64], request[64], list[8 * TAGS];
+static uint8_t rack[16384], draws[TAGS], answer[8451], request[64], list[8 * TAGS];
 static size_t rack_length, request_length, data_length;
 static uint8_t number, uid[8], data[32];
 static struct sackbutflare_command command;
@@ -99,6 +99,7 @@ static void uid_of(int i, uint8_t u[8])
     u[7] = (uint8_t)(u[7] % 16 + (i % 2 ? 0xE0 : 0x10));
 }
 
+/* The label that is asked has 256 blocks, for the longest answer. */
 static void lay_rack(int labels)
 {
     size_t at = 2 + 8 * TAGS;
@@ -108,13 +109,16 @@ static void lay_rack(int labels)
     for (int i = 0; i < TAGS; i++) {
         uint8_t *entry = rack + 2 + 8 * i, *body = rack + at;
         int label = i < labels;
-        size_t length = label ? 32 + 1 + 32 : 80;
+        int blocks = i == ASKED ? 256 : 1;
+        size_t length = label ? 32 + (size_t)blocks * 33 : 80;
         entry[0] = label ? 1 : 2;
         entry[2] = (uint8_t)length;
+        entry[3] = (uint8_t)(length >> 8);
         entry[4] = (uint8_t)at;
         entry[5] = (uint8_t)(at >> 8);
         if (label) {
             uid_of(i, body);
+            body[11] = (uint8_t)(blocks - 1);
             body[12] = 31;
             body[14] = 1;
             body[15] = 255;
@@ -154,9 +158,10 @@ static void say(int answers)
 static void say_label(int code, int answers)
 {
     command = (struct sackbutflare_command){ .kind = SACKBUTFLARE_LABEL, .code = (uint16_t)code, .target = SACKBUTFLARE_ONE_UID };
-    command.option = code == 0x20;
+    command.option = code == 0x20 || code == 0x23;
+    command.more = 255;
     data_length = code == 0x21 ? 32 : 0;
-    uid_of(5, uid);
+    uid_of(ASKED, uid);
     say(answers);
 }
 
@@ -172,7 +177,7 @@ static void inventory(void)
 {
     command = (struct sackbutflare_command){ .kind = SACKBUTFLARE_LABEL, .code = 0x01, .sixteen = true, .afi_given = true, .mask_bits = 60 };
     data_length = 0;
-    uid_of(5, uid);
+    uid_of(ASKED, uid);
     for (int k = 0; k < 60; k++)
         command.mask |= (uint64_t)(uid[k / 8] >> k % 8 & 1) << k;
     say(0);
@@ -183,10 +188,12 @@ static void inventory(void)
 static void cases(void)
 {
     lay_rack(32);
-    for (int code = 0x20; code <= 0x2B; code++)
-        if (code < 0x23 || code > 0x24)
+    for (int code = 0x20; code <= 0x2C; code++)
+        if (code != 0x24)
             say_label(code, 1);
     say_label(0x21, 1);
+    say_label(0x23, 1);
+    EXPECT(report.length == sizeof answer && told.count == 256);
     inventory();
     say_label(0x02, 0);
     say_chip(0x0600, 0, 32);
