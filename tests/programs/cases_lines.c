@@ -42,7 +42,7 @@ static void draws_line(struct script *s)
 /* The event of this number and frame, on the rack as it is. */
 static void step(struct script *s, uint8_t number, const uint8_t *frame, size_t len)
 {
-    uint8_t answer[REF_OUTPUT];
+    uint8_t answer[REF_ANSWER];
     struct ref_report report;
     size_t tags = ref_rack_tags(s->rack);
     ref_event(s->rack, s->rack_len, number, frame, len, s->draws, tags > REF_TAGS_MOST ? REF_TAGS_MOST : tags, answer,
@@ -152,13 +152,44 @@ static void say_inventory(struct script *s, struct saying *say)
     }
 }
 
+/* `to` and a last block: of the label, past its end, or any. */
+static void say_last(struct script *s, struct saying *say, unsigned blocks)
+{
+    unsigned first = say->c.byte, last = blocks - 1;
+    uint32_t how = gen_below(&s->g, 10);
+    if (how == 0)
+        last = blocks;
+    else if (how < 4)
+        last = first + gen_below(&s->g, 256 - first);
+    last = last < first ? first : last > 255 ? 255 : last;
+    blanks(s, 1);
+    word(s, "to");
+    blanks(s, 1);
+    fprintf(s->out, gen_chance(&s->g, 95) ? "%u" : "%03u", last);
+    say->c.more = (uint8_t)(last - first);
+}
+
+/* One block read, or several, with lock bytes or not; or lock bytes alone. */
+static void say_read(struct script *s, struct saying *say, unsigned block, unsigned blocks)
+{
+    int status = gen_chance(&s->g, 30), many = gen_chance(&s->g, 60);
+    say->c.code = status ? 0x2C : many ? 0x23 : 0x20;
+    word(s, status ? "status" : "read");
+    say_target(s, say);
+    say_number(s, say, many && gen_chance(&s->g, 40) ? 0 : block);
+    if (many)
+        say_last(s, say, blocks);
+    if ((say->c.option = (uint8_t)(!status && gen_chance(&s->g, 40))) != 0)
+        blanks(s, 1), word(s, "lock");
+}
+
 static void say_label(struct script *s, struct saying *say)
 {
     const uint8_t *label = pick_body(s, REF_KIND_LABEL);
     unsigned blocks = label ? label[LABEL_BLOCKS] + 1u : 4, size = label ? label[LABEL_SIZE] + 1u : 4;
     unsigned block = gen_chance(&s->g, 85) ? gen_below(&s->g, blocks) : gen_below(&s->g, 256);
     say->uid = label && gen_chance(&s->g, 90) ? ref_number(label, REF_UID) : gen_u64(&s->g);
-    switch (gen_below(&s->g, 11)) {
+    switch (gen_below(&s->g, 13)) {
     case 0: say->c.code = 0x02; word(s, "quiet"); say_target(s, say); break;
     case 1: say->c.code = 0x26; word(s, "ready"); say_target(s, say); break;
     case 2: say->c.code = 0x25; word(s, "select"); say_target(s, say); break;
@@ -166,13 +197,10 @@ static void say_label(struct script *s, struct saying *say)
     case 4: say->c.code = 0x22; word(s, "lock"); say_target(s, say); say_number(s, say, block); break;
     case 5:
     case 6:
-        say->c.code = 0x20;
-        word(s, "read"); say_target(s, say); say_number(s, say, block);
-        if ((say->c.option = (uint8_t)gen_chance(&s->g, 40)) != 0)
-            blanks(s, 1), word(s, "lock");
-        break;
     case 7:
-    case 8:
+    case 8: say_read(s, say, block, blocks); break;
+    case 9:
+    case 10:
         say->c.code = 0x21;
         word(s, "write"); say_target(s, say); say_number(s, say, block);
         say_data(s, say, gen_chance(&s->g, 90) ? size : 1 + gen_below(&s->g, 32));
@@ -255,7 +283,12 @@ static const char *const BAD[] = {
     "slot x", "slot F", "slot 1 2", "get", "get x", "get 5 6", "put", "put x 00000000", "put 5 0000000G", "uid 1", "resets",
     "completion now", "reset # fine", "write all 1 \"ab\" \"cd\"", "put 7 \"abcd\" x", "select all", "quiet selected",
     "quiet all", "slot 0", "slot 16", "get 16", "get 254", "put 16 00000000", "put 7 000000", "put 7 0000000000",
-    "put 7 \"abc\"", "inventory 16 mask 61/0000000000000000", "inventory mask 4/FF"
+    "put 7 \"abc\"", "inventory 16 mask 61/0000000000000000", "inventory mask 4/FF", "read all 1 to", "read all 1 to # 2",
+    "read all 1 to x", "read all 5 to 4", "read all 1 to 256", "read all 1 to -2", "read all 1 too 2", "read all 1 2",
+    "read all 1 to 2 3", "read all 1 to 2 locks", "read all 1 to 2 lock 3", "read all 1 to 2 to 3", "read all 1 lock to 2",
+    "read all to 2", "read to 2", "status", "status me 1", "status all", "status all x", "status all 256", "status all 1 lock",
+    "status all 1 2", "status all 1 to", "status all 4 to 3", "status all 1 to 300", "status all 1 to 2 lock", "status all 1 to 2 3",
+    "status all 255 to 254", "get 1 to 2", "write all 1 to 2 00", "lock all 1 to 2"
 };
 
 /* What is not settled by the words of docs/FORMAT.md alone. */
@@ -267,6 +300,9 @@ static const char *const ODD[] = {
     "read all 0255", "read all 00000000000000000000000000001", "read all 99999999999999999999", "read all -1", "read all +1",
     "read all 0x1", "get 256", "get 0x5", "slot 256", "slot 0xF", "afi all 0x31", "dsfid all 0x31", "select 0x3C",
     "inventory afi 0x31", "inventory mask 0", "read 0xE000000000000011 1", "read E0:00:00:00:00:00:00:11 1", "draws 00:01-02", "draws 0x00 01",
+    "read all 1 To 2 LOCK", "read all 0 to 255", "read all 255 to 255", "read all 1 to 0002", "read all 1 to 01", "read all 1to 2",
+    "read all 1 to2", "read all 1 to 2#", "read all 1 to 2 # x", "read all 1 to 2 lock# x", "STATUS all 0", "status selected 0 TO 255",
+    "status all 1 to 0x2", "status all 1 to 2# x", "status all 0 # all", "read all 0 to 255 lock",
     "on\t#", "\ton", " # on", "off# off", "label+ ", "\xEF\xBB\xBFon", "read all 1 lock# x"
 };
 

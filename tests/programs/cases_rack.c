@@ -6,14 +6,17 @@
 
 /* ------------------------------------------------------------------- racks */
 
-/* A block that is new, or holds text. */
-static void soften_block(struct gen *g, uint8_t kind, struct block *block)
+/* A block that is new, or holds text; with `told` nothing but text. */
+static void soften_block(struct gen *g, uint8_t kind, struct block *block, int told)
 {
     static const char text[] = "cleaned, used. PUMP 17 \"#\"";
     uint32_t how = gen_below(g, 10);
     if (block->number == 255 && kind == REF_KIND_CHIP)
         return;
-    if (how < 4)
+    if (told)
+        for (size_t i = 0; i < block->len; i++)
+            block->at[i] = (uint8_t)text[(how + i) % (sizeof text - 1)];
+    else if (how < 4)
         memset(block->at, kind == REF_KIND_CHIP && block->number < 7 ? 0xFF : 0, block->len);
     else if (how < 6)
         memcpy(block->at, text + gen_below(g, 20), block->len > 6 ? 6 : block->len);
@@ -25,11 +28,11 @@ void soften(struct gen *g, uint8_t *rack)
 {
     for (size_t i = 0; i < ref_rack_tags(rack); i++) {
         uint8_t kind = ref_rack_kind(rack, i), *body = rack + ref_rack_offset(rack, i);
-        int all = gen_chance(g, 30);
+        int told = kind == REF_KIND_LABEL && gen_chance(g, 20), all = told || gen_chance(g, 30);
         for (int n = next_block(kind, body, -1); n >= 0; n = next_block(kind, body, n)) {
             struct block block = block_at(kind, body, n);
             if (all || gen_chance(g, 40))
-                soften_block(g, kind, &block);
+                soften_block(g, kind, &block, told);
         }
     }
 }

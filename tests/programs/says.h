@@ -33,7 +33,7 @@ int printed(void);
 enum what {
     AN_EVENT, THE_END, A_HEX_DIGIT, A_SECOND_DIGIT, A_TARGET, A_NUMBER, A_BYTE, A_BYTE_OR_LOCK, A_MASK,
     A_QUOTE, THE_EDITION, A_TAG, A_FIELD, A_STATE, YES_OR_NO, A_UID, THE_WORD_OF, A_BLOCK, NO_MORE_BYTES,
-    BLOCKS_FIRST
+    BLOCKS_FIRST, TO_LOCK_OR_END, LOCK_OR_END, TO_OR_END, A_LAST_BLOCK
 };
 
 /* A line that is read from left to right. The first offence stays. */
@@ -120,7 +120,10 @@ struct asked ask_label(const uint8_t *frame, size_t len);
 struct asked ask_chip(const uint8_t *frame, size_t len);
 /* The name of what is asked, into room for 120. */
 void name_of(const struct asked *asked, char *out);
-/* What an answer means to who asked, into room for 160. */
+/* Room for what 256 blocks of 32 bytes mean: their text, and the numbers of all
+ * of them. */
+enum { MEANING_ROOM = 10000 };
+/* What an answer means to who asked, into so much room. */
 void meaning_of(const struct asked *asked, const uint8_t *answer, size_t len, char *out);
 
 /* ----------------------------------------------- says_why.c: why nobody answered */

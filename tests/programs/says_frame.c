@@ -47,8 +47,14 @@ static int parameters(uint8_t code)
     case 0x02: case 0x25: case 0x26: case 0x28: case 0x2A: case 0x2B: return 0;
     case 0x20: case 0x22: case 0x27: case 0x29: return 1;
     case 0x21: return ANY_LENGTH;
+    case 0x23: case 0x2C: return 2;
     default: return -1;
     }
+}
+
+static int takes_option(uint8_t code)
+{
+    return code == 0x20 || code == 0x23;
 }
 
 static struct asked ask_task(const uint8_t *frame, size_t len)
@@ -66,7 +72,7 @@ static struct asked ask_task(const uint8_t *frame, size_t len)
         return nobody("Inventory without its flag");
     if ((frame[1] == 0x02 || frame[1] == 0x25) && !address)
         return nobody("wants a UID");
-    int fault = wanted < 0 || (wanted != ANY_LENGTH && (len - 2 - first != (size_t)wanted || (option && frame[1] != 0x20)));
+    int fault = wanted < 0 || (wanted != ANY_LENGTH && (len - 2 - first != (size_t)wanted || (option && !takes_option(frame[1]))));
     if (fault && frame[1] == 0x02)
         return nobody("stay quiet: not well formed");
     asked.call = fault ? FAULT : TASK;
@@ -74,8 +80,9 @@ static struct asked ask_task(const uint8_t *frame, size_t len)
     c->kind = REF_KIND_LABEL;
     c->code = frame[1];
     c->target = address ? REF_ONE_UID : select ? REF_SELECTED : REF_EVERYONE;
-    c->option = (uint8_t)(option && frame[1] == 0x20);
+    c->option = (uint8_t)(option && takes_option(frame[1]));
     c->byte = len - 2 > first ? frame[first] : 0;
+    c->more = !fault && wanted == 2 ? frame[first + 1] : 0;
     return asked;
 }
 
@@ -138,19 +145,21 @@ static void target_text(const struct asked *asked, char *out)
 static void task_name(const struct asked *asked, char *out)
 {
     char to[32];
-    unsigned byte = asked->command.byte;
+    unsigned byte = asked->command.byte, last = byte + asked->command.more;
     target_text(asked, to);
     switch (asked->command.code) {
     case 0x02: sprintf(out, "quiet %s", to); break;
     case 0x20: sprintf(out, "read block %u%s of %s", byte, asked->command.option ? " with lock" : "", to); break;
     case 0x21: sprintf(out, "write block %u of %s", byte, to); break;
     case 0x22: sprintf(out, "lock block %u of %s", byte, to); break;
+    case 0x23: sprintf(out, "read blocks %u to %u%s of %s", byte, last, asked->command.option ? " with locks" : "", to); break;
     case 0x25: sprintf(out, "select %s", to); break;
     case 0x26: sprintf(out, "ready %s", to); break;
     case 0x27: sprintf(out, "write AFI %02X of %s", byte, to); break;
     case 0x28: sprintf(out, "lock AFI of %s", to); break;
     case 0x29: sprintf(out, "write DSFID %02X of %s", byte, to); break;
     case 0x2A: sprintf(out, "lock DSFID of %s", to); break;
+    case 0x2C: sprintf(out, "status of blocks %u to %u of %s", byte, last, to); break;
     default: sprintf(out, "info of %s", to); break;
     }
 }
@@ -213,7 +222,31 @@ static void add_text(char *out, const char *before, const uint8_t *bytes, size_t
         sprintf(out, "%s\"%.*s\"", before, (int)len, (const char *)bytes);
 }
 
-/* The reading of what must be an answer; the command of a fault is any. */
+/* The numbers of the blocks whose lock bytes, so far apart, are 1. */
+static char *add_locked(char *out, const struct ref_reading *r, unsigned first, const uint8_t *locks, size_t apart)
+{
+    int found = 0;
+    for (unsigned i = 0; i < r->count; i++)
+        if (locks[i * apart] == 1)
+            out += sprintf(out, "%s %u", found++ ? "" : ", locked", first + i);
+    return found ? out : out + sprintf(out, ", none locked");
+}
+
+/* Several blocks, one behind the other. */
+static void blocks_text(const struct ref_command *c, const struct ref_reading *r, const uint8_t *answer, char *out)
+{
+    uint8_t text[256 * 32];
+    size_t head = c->option ? 1 : 0;
+    out += sprintf(out, "%u blocks of %u", (unsigned)r->count, (unsigned)r->length);
+    if (c->option)
+        out = add_locked(out, r, c->byte, answer + r->place, 1 + r->length);
+    for (size_t i = 0; i < r->count; i++)
+        memcpy(text + i * r->length, answer + r->place + i * (head + r->length) + head, r->length);
+    add_text(out, ", ", text, (size_t)r->count * r->length);
+}
+
+/* The reading of what must be an answer. The command of a fault is any, and so
+ * is one for blocks over 255, which is no request but has an answer: error 10. */
 static struct ref_reading read_answer(const struct asked *asked, const uint8_t *answer, size_t len)
 {
     struct ref_reading reading;
@@ -221,7 +254,7 @@ static struct ref_reading read_answer(const struct asked *asked, const uint8_t *
     uint8_t uid[REF_UID];
     for (int i = 0; i < REF_UID; i++)
         uid[i] = (uint8_t)(asked->uid >> (8 * i));
-    if (asked->call == FAULT) {
+    if (asked->call == FAULT || command.byte + command.more > 255) {
         command.code = 0x26;
         command.option = 0;
     }
@@ -242,6 +275,11 @@ void meaning_of(const struct asked *asked, const uint8_t *answer, size_t len, ch
         if (asked->command.option)
             out += sprintf(out, "%s", r.lock ? "locked" : "not locked");
         add_text(out, asked->command.option ? ", " : "", answer + r.place, r.length);
+        break;
+    case REF_MEANS_BLOCKS: blocks_text(&asked->command, &r, answer, out); break;
+    case REF_MEANS_LOCKS:
+        out += sprintf(out, "%u blocks", (unsigned)r.count);
+        add_locked(out, &r, asked->command.byte, answer + r.place, 1);
         break;
     case REF_MEANS_SYSTEM:
         sprintf(out, "%016llX, DSFID %02X, AFI %02X, %u blocks of %u, IC %02X", uid, r.dsfid, r.afi, r.blocks + 1u,

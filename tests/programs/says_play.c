@@ -135,7 +135,7 @@ static struct asked what_is_asked(uint8_t event, struct bytes frame)
 static int answers(const struct player *p, size_t i, uint8_t event, struct bytes frame)
 {
     static uint8_t rack[REF_RACK_MOST];
-    uint8_t answer[REF_OUTPUT];
+    uint8_t answer[REF_ANSWER];
     struct ref_report report;
     const uint8_t *entry = p->before + REF_HEAD + REF_ENTRY * i;
     size_t len = (size_t)ref_number(entry + 2, 2), head = REF_HEAD + REF_ENTRY;
@@ -160,7 +160,7 @@ static void tell_owners(const struct player *p, uint8_t event, struct bytes fram
 static void tell_meaning(const struct player *p, uint8_t event, struct bytes frame, const struct asked *asked,
                          const struct ref_report *report, const uint8_t *answer, int width)
 {
-    char meaning[32 * REF_TAGS_MOST] = "";
+    char meaning[MEANING_ROOM] = "";
     if (report->number != 0)
         return;
     if (report->answered == 1)
@@ -176,8 +176,8 @@ static void tell_meaning(const struct player *p, uint8_t event, struct bytes fra
 static void play_event(struct player *p, uint8_t event, struct bytes frame)
 {
     static const char *const words[] = { "", "off", "on", "label", "eof", "chip" };
-    uint8_t answer[REF_OUTPUT];
-    char name[120], reply[160];
+    uint8_t answer[REF_ANSWER];
+    char name[120], reply[3 * REF_ANSWER + 1];
     struct ref_report report;
     struct asked asked = what_is_asked(event, frame);
     memcpy(p->before, p->rack.at, p->rack.len);
@@ -247,7 +247,7 @@ static const struct word {
 } WORDS[] = {
     { "inventory", REF_KIND_LABEL, 0x01, "I" },
     { "quiet", REF_KIND_LABEL, 0x02, "T" },
-    { "read", REF_KIND_LABEL, 0x20, "TNO" },
+    { "read", REF_KIND_LABEL, 0x20, "TNR" },
     { "write", REF_KIND_LABEL, 0x21, "TND" },
     { "lock", REF_KIND_LABEL, 0x22, "TN" },
     { "select", REF_KIND_LABEL, 0x25, "S" },
@@ -255,6 +255,7 @@ static const struct word {
     { "afi", REF_KIND_LABEL, 0x27, "TF" },
     { "dsfid", REF_KIND_LABEL, 0x29, "TF" },
     { "info", REF_KIND_LABEL, 0x2B, "T" },
+    { "status", REF_KIND_LABEL, 0x2C, "TNL" },
     { "initiate", REF_KIND_CHIP, REF_INITIATE, "" },
     { "pcall", REF_KIND_CHIP, REF_PCALL16, "" },
     { "slot", REF_KIND_CHIP, REF_SLOT_MARKER, "N" },
@@ -277,6 +278,31 @@ static void take_select(struct line *line, struct said *said)
     }
 }
 
+/* `to` and the last block, which may be the first. */
+static int take_last(struct line *line, struct ref_command *c)
+{
+    if (!take_word(line, "to"))
+        return 0;
+    c->more = (uint8_t)(take_number(line, c->byte, 255, A_LAST_BLOCK) - c->byte);
+    return 1;
+}
+
+/* read: one block, or several; with lock bytes or not. */
+static void take_read(struct line *line, struct ref_command *c)
+{
+    int many = take_last(line, c);
+    c->code = many ? 0x23 : 0x20;
+    c->option = (uint8_t)(!line->bad && take_word(line, "lock"));
+    if (!c->option && !at_end(line))
+        offend(line, line->pos, many ? LOCK_OR_END : TO_LOCK_OR_END);
+}
+
+static void take_status(struct line *line, struct ref_command *c)
+{
+    if (!take_last(line, c) && !at_end(line))
+        offend(line, line->pos, TO_OR_END);
+}
+
 static struct said take_command(struct player *p, struct line *line, const struct word *word)
 {
     struct said said = { { 0 }, 0, 0 };
@@ -293,7 +319,8 @@ static struct said take_command(struct player *p, struct line *line, const struc
             break;
         case 'I': take_inventory(line, &said.command); break;
         case 'F': take_field(line, &said.command); break;
-        case 'O': said.command.option = (uint8_t)take_word(line, "lock"); break;
+        case 'R': take_read(line, &said.command); break;
+        case 'L': take_status(line, &said.command); break;
         default: take_select(line, &said); break;
         }
     take_end(line);

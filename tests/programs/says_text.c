@@ -28,7 +28,11 @@ static const char *const EXPECTED[] = {
     [THE_WORD_OF] = "of",
     [A_BLOCK] = "the number of a block",
     [NO_MORE_BYTES] = "no more bytes",
-    [BLOCKS_FIRST] = "blocks before the first block"
+    [BLOCKS_FIRST] = "blocks before the first block",
+    [TO_LOCK_OR_END] = "to, lock or the end of the line",
+    [LOCK_OR_END] = "lock or the end of the line",
+    [TO_OR_END] = "to or the end of the line",
+    [A_LAST_BLOCK] = "a last block, no lower than the first"
 };
 
 const char *expected(const struct line *line)

@@ -5,7 +5,7 @@
 // ! PLACE PLACE BYTES       sets bytes of it, from a place that is given high byte first
 // sum BYTES                 the check sums of bytes
 // mask UID MASK BITS [SLOT] whether a UID ends in a mask, with a slot above it where one is given; eight bytes each, low byte first
-// try EVENT DRAWS ROOM      an event with no frame, so many draws and a buffer of so many bytes
+// try EVENT DRAWS ROOM ROOM an event with no frame, so many draws and a buffer of so many bytes, high byte first
 // walk [AFI]                a walk
 // into ROOM                 a walk with a list of so many bytes
 // request COMMAND DATA      a request, written and played, and its answer read
@@ -13,8 +13,8 @@
 // answer COMMAND CONTENT    an answer, with its check sum added, read
 // frame COMMAND FRAME       an answer read as it stands
 //
-// A COMMAND is its kind, target, Option and code (high byte first), then its byte; of an Inventory whether there are sixteen slots, whether an AFI is
-// given, the AFI, the length of the mask and the mask.
+// A COMMAND is its kind, target, Option and code (high byte first), then its byte, of 23 and 2C the count less 1 behind it; of an Inventory whether there
+// are sixteen slots, whether an AFI is given, the AFI, the length of the mask and the mask.
 use crate::changes::print_changes;
 use crate::racks;
 use crate::readers;
@@ -124,7 +124,7 @@ fn act(mark: u8, bytes: &[u8], tags: &mut [u8], draws: &[u8]) {
 fn our_line(mark: u8, line: &[u8], tags: &mut [u8], draws: &[u8]) {
     let said = first_word(line);
     let rest = said.rest;
-    let mut bytes = [0u8; 128];
+    let mut bytes = [0u8; 512];
     let n = read_hex(&line[rest..], &mut bytes);
     say(b" -> ");
     act(mark, &bytes[0..n], tags, draws);
@@ -140,7 +140,7 @@ fn any_line(mark: u8, line: &[u8], tags: &mut [u8], draws: &mut [u8]) {
 
 // A line and what it changed.
 fn change(mark: u8, line: &[u8], tags: &mut [u8], draws: &mut [u8]) {
-    let mut old = [0u8; 4096];
+    let mut old = [0u8; 16384];
     copy(tags, &mut old);
     any_line(mark, line, tags, draws);
     print_changes(&old, tags);
@@ -201,8 +201,8 @@ fn lines(buf: &mut [u8], tags: &mut [u8], draws: &mut [u8]) {
 }
 
 pub fn run() {
-    let mut buf = [0u8; 16384];
-    let mut tags = [0u8; 4096];
+    let mut buf = [0u8; 65536];
+    let mut tags = [0u8; 16384];
     let mut draws = [0u8; 64];
     lines(&mut buf, &mut tags, &mut draws);
 }

@@ -26,6 +26,13 @@ fn locked(lock: u8, at: usize, n: usize) {
     block(at, n);
 }
 
+// Several blocks, or their lock bytes.
+fn several(name: &[u8], at: usize, n: usize, count: usize) {
+    say_number(name, at as u64);
+    say_number(b" of ", n as u64);
+    say_number(b" count ", count as u64);
+}
+
 fn word(w: u32) {
     say_byte(b"word ", (w / 16777216) as u8);
     print_byte((w / 65536 % 256) as u8);
@@ -49,6 +56,9 @@ fn print_meaning(m: Meaning) {
         Meaning::Uid => {
             say(b"UID");
         }
+        Meaning::Blocks(at, n, count) => several(b"blocks at ", at, n, count),
+        Meaning::LocksAndBlocks(at, n, count) => several(b"locks and blocks at ", at, n, count),
+        Meaning::Locks(at, count) => several(b"locks at ", at, 1, count),
     }
 }
 

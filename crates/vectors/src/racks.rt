@@ -10,6 +10,9 @@ use rack::event::Report;
 use rack::event::event;
 use request::label::Family;
 
+// The most room that is tried for an answer.
+const ROOM: usize = 8480;
+
 // Says so where a buffer has not the byte EE everywhere.
 fn stays(out: &[u8]) {
     let mut i = 0;
@@ -40,15 +43,15 @@ fn play_into(number: u8, tags: &mut [u8], draws: &[u8], answer: &mut [u8]) {
 
 pub fn try_event(bytes: &[u8], tags: &mut [u8]) {
     let n = byte_at(bytes, 1) as usize;
-    let room = byte_at(bytes, 2) as usize;
+    let room = byte_at(bytes, 2) as usize * 256 + byte_at(bytes, 3) as usize;
     if 8 < n {
         return;
     }
-    if 80 < room {
+    if ROOM < room {
         return;
     }
     let draws = [0u8; 8];
-    let mut answer = [0xEEu8; 80];
+    let mut answer = [0xEEu8; ROOM];
     play_into(byte_at(bytes, 0), tags, &draws[0..n], &mut answer[0..room]);
 }
 

@@ -44,11 +44,12 @@ fn command(bytes: &[u8]) -> Command {
         byte: byte_at(bytes, 5),
         code: byte_at(bytes, 3) as u16 * 256 + byte_at(bytes, 4) as u16,
         mask: mask_of(bytes),
+        more: byte_at(bytes, 6),
     };
     command_of(f)
 }
 
-// How many bytes a command has: an Inventory, kind 1 and code 0001, has more than the others.
+// How many bytes a command has: of kind 1 some codes have more than the others.
 fn length_of(bytes: &[u8]) -> usize {
     if byte_at(bytes, 0) != 1 {
         return 6;
@@ -56,10 +57,11 @@ fn length_of(bytes: &[u8]) -> usize {
     if byte_at(bytes, 3) != 0 {
         return 6;
     }
-    if byte_at(bytes, 4) != 1 {
-        return 6;
+    match byte_at(bytes, 4) {
+        0x01 => 17,
+        0x23 | 0x2C => 7,
+        _ => 6,
     }
-    17
 }
 
 // The place behind a command.
@@ -139,7 +141,7 @@ pub fn narrow(bytes: &[u8]) {
 // An answer to a command that was sent with one byte of data.
 pub fn answer(bytes: &[u8]) {
     let at = behind(bytes);
-    let mut frame = [0u8; 64];
+    let mut frame = [0u8; 512];
     let n = seal_into(&bytes[at..], &mut frame);
     read(bytes, 1, &frame[0..n]);
 }

@@ -13,7 +13,7 @@ pub fn play_event(tags: &mut [u8], number: u8, frame: &[u8], draws: &[u8]) {
     let mut answer = [0u8; LEAST];
     let n = draws_for(tags, draws.len());
     let report = event(tags, number, frame, part_of(draws, 0, n), &mut answer);
-    let mut text = [0u8; 256];
+    let mut text = [0u8; 32768];
     let m = put_reply(&mut text, 0, report, &answer);
     say(part_of(&text, 0, m));
 }
