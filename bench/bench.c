@@ -1,6 +1,7 @@
 /* bench.c - times the proved library against the reference in plain C, in one run, and prints a table: nanoseconds a call and their ratio.
  * Compiled with BEFORE it times it against another archive of the same calls, whose names begin with before_.
- * Before a row is timed both sides play it and must leave the same reply and the same bytes, else it ends with status 1.
+ * Before a row is timed both sides play it and must leave the same reply and the same bytes, else it ends with status 1. Rows that read several blocks
+ * are left out where an archive of another revision, or the one to be counted, has no such read.
  * Each number is the best of several tries, taken in turn. The clock is the process's own, and a try lasts equally long for both: on a busy
  * machine a short try would else slip in between two interruptions and a long one never could, in favour of the quicker call.
  * bench count is for bench/count: it calls ours alone, twice a row, the second time between two marks. */
@@ -16,7 +17,7 @@ enum { TRIES = 15, MOST = 65536 };
 
 static const double TRY = 0.004;       /* seconds */
 
-static uint8_t rack[MOST], work[MOST], answer[64], list[512];
+static uint8_t rack[MOST], work[MOST], answer[8451], list[512];
 static const uint8_t draws[64];
 static size_t rack_len;
 
@@ -77,6 +78,35 @@ static void give(size_t number, size_t count, size_t more)
     said.number = number;
     said.count = count;
     said.more = more;
+}
+
+/* A label of 256 blocks of 32 bytes, alone on its rack, read in C: each block copied, with Option behind its lock byte, and the check sum by our call. */
+enum { BLOCKS = 256, SIZE = 32, LOCKS = 10 + 32 };
+
+static void close_copy(size_t at)
+{
+    uint16_t sum = sackbutflare_check_sum(answer, at);
+    answer[at] = (uint8_t)sum;
+    answer[at + 1] = (uint8_t)(sum >> 8);
+    give(0, 1, at + 2);
+}
+
+static void copy_blocks(void)
+{
+    answer[0] = 0;
+    for (size_t i = 0; i < BLOCKS; i++)
+        memcpy(answer + 1 + i * SIZE, work + LOCKS + BLOCKS + i * SIZE, SIZE);
+    close_copy(1 + BLOCKS * SIZE);
+}
+
+static void copy_locked_blocks(void)
+{
+    answer[0] = 0;
+    for (size_t i = 0; i < BLOCKS; i++) {
+        answer[1 + i * (1 + SIZE)] = work[LOCKS + i];
+        memcpy(answer + 2 + i * (1 + SIZE), work + LOCKS + BLOCKS + i * SIZE, SIZE);
+    }
+    close_copy(1 + BLOCKS * (1 + SIZE));
 }
 
 /* The calls of an archive, its names beginning with name. */
@@ -291,6 +321,34 @@ static void events(int n, unsigned blocks, unsigned size)
     row("event: system information", n, our_event, the_event);
 }
 
+static bool reads_blocks(void (*event)(void))
+{
+    once(event, 1);
+    return said.number == 0 && said.more > BLOCKS;
+}
+
+static void read_row(const char *what, const uint8_t *frame, void (*copy)(void))
+{
+    now = (struct play) { 1, 3, frame, 6 };
+    if ((both_proved || counting) && !(reads_blocks(our_event) && reads_blocks(the_event)))
+        return;
+    row(what, 1, our_event, the_event);
+    if (!counting && !both_proved)
+        row("the same against a loop of memcpy and the same check sum", 1, our_event, copy);
+}
+
+static void reads(void)
+{
+    static const uint8_t plain[] = { 0x02, 0x23, 0x00, 0xFF, 0x8F, 0x26 }, locked[] = { 0x42, 0x23, 0x00, 0xFF, 0x38, 0x30 };
+    make(1, BLOCKS, SIZE, best);
+    for (size_t i = 0; i < BLOCKS; i++)
+        rack[LOCKS + i] = i % 3 == 0;
+    for (size_t i = LOCKS + BLOCKS; i < rack_len; i++)
+        rack[i] = (uint8_t)(i * 37 + i / 256);
+    read_row("event: read of 256 blocks of 32 bytes", plain, copy_blocks);
+    read_row("event: read of 256 blocks of 32 bytes with their locks", locked, copy_locked_blocks);
+}
+
 /* Walks one rack over and over. */
 static void walks(const char *what, uint64_t (*uid)(int))
 {
@@ -317,6 +375,7 @@ int main(int argc, char **argv)
     for (int n = 1; n <= 64; n *= 8)
         events(n, 4, 4);
     events(64, 28, 32);
+    reads();
     walks("best", best);
     walks("worst", worst);
     walks("drawn", drawn);

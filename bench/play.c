@@ -90,7 +90,7 @@ static double seconds(void)
 
 static int call(const char *path)
 {
-    static uint8_t frames[EVENTS][FRAME], lengths[EVENTS], answer[64];
+    static uint8_t frames[EVENTS][FRAME], lengths[EVENTS], answer[8451];
     static const uint8_t draws[TAGS];
     long refused = 0;
     FILE *in = fopen(path, "rb");
