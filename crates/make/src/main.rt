@@ -1,4 +1,6 @@
 // make TEXT RACK: reads a rack as text and writes the rack file.
+#![tactic(auto)]
+
 mod lines;
 
 ghost use Rattle.print.specs.Puts.{Puts};
@@ -7,14 +9,16 @@ ghost use Rattle.make.specs.Texts.{wrong_text, refused_text};
 use crate::lines::{Made, make_rack};
 use draft::words::{Why, put_why};
 use frame::verdict::Verdict;
-use libc::STDERR_FILENO;
+use print::fail;
 use print::put::{put_decimal, put_text};
 use sheet::refusal::put_refusal;
+use text::args::{PATH_MAX, count, path};
 use text::file::load;
+use text::save::save;
 use verbs::tokens::{Span, text_of};
 
-fn tell(s: &[u8], len: usize) {
-    io::write_all(STDERR_FILENO, text_of(s, Span { from: 0, to: len }));
+fn tell(rt: &HostRuntime, s: &[u8], len: usize) {
+    fail::tell(rt, text_of(s, Span { from: 0, to: len }));
 }
 
 fn put_wrong(out: &mut [u8], n: u64, why: Why) -> usize
@@ -27,10 +31,10 @@ fn put_wrong(out: &mut [u8], n: u64, why: Why) -> usize
     put_text(out, d, b"\n")
 }
 
-fn wrong(n: u64, why: Why) {
+fn wrong(rt: &HostRuntime, n: u64, why: Why) {
     let mut out = [0u8; 160];
     let len = put_wrong(&mut out, n, why);
-    tell(&out, len);
+    tell(rt, &out, len);
 }
 
 fn put_refused(out: &mut [u8], rack: &[u8], v: Verdict) -> usize
@@ -41,61 +45,59 @@ fn put_refused(out: &mut [u8], rack: &[u8], v: Verdict) -> usize
     put_text(out, b, b"\n")
 }
 
-fn refused(rack: &[u8], v: Verdict) {
+fn refused(rt: &HostRuntime, rack: &[u8], v: Verdict) {
     let mut out = [0u8; 160];
     let len = put_refused(&mut out, rack, v);
-    tell(&out, len);
+    tell(rt, &out, len);
 }
 
-fn leave(rack: &[u8]) {
-    let mut path = io::buffer();
-    let n = os::arg(2, &mut path);
-    if os::errno() != 0 {
-        os::fail(b"RACK");
+fn leave(rt: &HostRuntime, rack: &[u8]) {
+    let mut named = [0u8; PATH_MAX];
+    let Some(n) = path(rt, 2, b"RACK", &mut named) else {
         return;
-    }
-    text::save::save(&path[0..n], rack);
+    };
+    save(rt, &named[0..n], rack);
 }
 
-fn run(text: &[u8], body: &mut [u8], out: &mut [u8]) {
+fn run(rt: &HostRuntime, text: &[u8], body: &mut [u8], out: &mut [u8]) {
     let made = make_rack(text, body, out);
     match made {
-        Made::Rack(n) => leave(text_of(out, Span { from: 0, to: n })),
-        Made::Wrong(n, why) => wrong(n, why),
-        Made::Refused(n, v) => refused(text_of(out, Span { from: 0, to: n }), v),
+        Made::Rack(n) => leave(rt, text_of(out, Span { from: 0, to: n })),
+        Made::Wrong(n, why) => wrong(rt, n, why),
+        Made::Refused(n, v) => refused(rt, text_of(out, Span { from: 0, to: n }), v),
     }
 }
 
 // Room for a rack, its entries and one body more.
-fn make_text(text: &[u8]) {
+fn make_text(rt: &HostRuntime, text: &[u8]) {
     let mut body = [0u8; 8480];
     let mut out = [0u8; 74528];
-    run(text, &mut body, &mut out);
+    run(rt, text, &mut body, &mut out);
 }
 
 // At most 1 MiB.
-fn make_file(text: &mut [u8]) {
-    let loaded = load(1, b"TEXT", text);
+fn make_file(rt: &HostRuntime, text: &mut [u8]) {
+    let loaded = load(rt, 1, b"TEXT", text);
     if !loaded.fine {
         return;
     }
     let len = loaded.len;
     if 1048576 < len {
-        io::write_all(STDERR_FILENO, b"TEXT has over 1048576 bytes\n");
+        fail::tell(rt, b"TEXT has over 1048576 bytes\n");
         return;
     }
-    make_text(&text[0..len]);
+    make_text(rt, &text[0..len]);
 }
 
-fn make_named() {
+fn make_named(rt: &HostRuntime) {
     let mut text = [0u8; 1048577];
-    make_file(&mut text);
+    make_file(rt, &mut text);
 }
 
-fn main() {
-    if os::arg_count() != 3 {
-        io::write_all(STDERR_FILENO, b"usage: make TEXT RACK\n");
+fn main(rt: HostRuntime) {
+    if count(&rt) != 3 {
+        fail::tell(&rt, b"usage: make TEXT RACK\n");
         return;
     }
-    make_named();
+    make_named(&rt);
 }

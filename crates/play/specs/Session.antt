@@ -1,6 +1,5 @@
 -- The program play over all its input: the lines that it finds, what each leaves, and the text that they say, in order. Assumes nothing.
-use Rattle.std.specs.Prelude.{◌≡◌, ℕ, ◌+◌, ◌-◌, ◌/◌, ◌%◌, ◌^◌, Bool, true, false, List, [], ◌++◌, ◌==◌, nat_lt}
-use Rattle.frame.specs.Choose.{if◌then◌else◌}
+use Rattle.std.specs.Prelude.{◌≡◌, ℕ, ◌+◌, ◌-◌, ◌/◌, ◌%◌, ◌^◌, Bool, true, false, List, [], ◌++◌, ◌==◌, nat_lt, if◌then◌else◌}
 use Rattle.frame.specs.Number.{part}
 use Rattle.print.specs.Puts.{Puts}
 use Rattle.rack.specs.Facts.{RackFine}
@@ -38,7 +37,7 @@ line_of n got buf = part (first_of n got buf) (got.to - first_of n got buf) buf
 -- it is played, and the next is looked for behind it
 pub record Turn (quiet : Bool) (a b : Stand) (said : List ℕ) : Type 0 where
   pub got : Got
-  pub found : Follows (next_of a.source a.buf) a.source.fd a.buf b.buf got
+  pub found : Follows (next_of a.source a.buf) a.buf b.buf got
   pub onward : b.source ≡ got.source
   pub counted : b.count ≡ (a.count + 1) % 2 ^ 64
   pub leaves : Leaves got.reached (line_of b.count got b.buf) a.tags a.draws a.bytes b.tags b.draws b.bytes

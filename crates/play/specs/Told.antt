@@ -1,6 +1,5 @@
 -- All that is said of one event. Assumes nothing.
-use Rattle.std.specs.Prelude.{◌≡◌, ℕ, Bool, List, [], ◌++◌, length, take, replicate, ◌==◌, slice_index}
-use Rattle.frame.specs.Choose.{if◌then◌else◌}
+use Rattle.std.specs.Prelude.{◌≡◌, ℕ, Bool, List, [], ◌++◌, length, take, replicate, ◌==◌, slice_index, if◌then◌else◌}
 use Rattle.frame.specs.Number.{part}
 use Rattle.print.specs.Puts.{Puts}
 use Rattle.request.specs.Signal.{signal_of}

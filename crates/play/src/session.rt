@@ -5,7 +5,7 @@ ghost use Rattle.play.specs.Facts.{Room};
 ghost use Rattle.play.specs.Session.{stand, start_of, may_wait, Stepped, Laid, Over};
 
 use crate::turns::turn;
-use libc::STDERR_FILENO;
+use print::fail::tell;
 use print::say::say;
 use tell::meaning::part_of;
 use text::lines::{Source, at_hand, next};
@@ -23,7 +23,7 @@ fn start(n: u64, line: &[u8]) -> usize
 }
 
 // Where the reading stands, how many lines were read, and where the text laid ends.
-#[derive(Drop)]
+#[derive(Clone, Copy)]
 struct Step {
     source: Source,
     n: u64,
@@ -32,6 +32,7 @@ struct Step {
 
 // Finds the next line and plays it, or what is found instead; what is said of it is laid into out, from a place on.
 fn play_next(
+    rt: &HostRuntime,
     quiet: bool,
     source: Source,
     n: u64,
@@ -50,13 +51,15 @@ fn play_next(
         (stand result.source buf.new result.n tags.new draws.new bytes.new) at out.old out.new
         result.at }
 {
-    let got = next(source, buf);
+    let mut input = rt.stdin();
+    let got = next(rt, &mut input, source, buf);
     let count = std::num::wrapping_add_u64(n, 1);
     let from = got.from;
     let to = got.to;
     let first = from + start(count, &buf[from..to]);
     let reached = got.reached;
     let end = turn(
+        rt,
         quiet,
         reached,
         &buf[first..to],
@@ -93,6 +96,7 @@ fn may_wait(source: Source, buf: &[u8], room: usize, at: usize) -> bool
 
 // Plays a line and those that are at hand behind it; what is said of them is laid one behind the other, from the front of out on.
 fn play_some(
+    rt: &HostRuntime,
     quiet: bool,
     source: Source,
     n: u64,
@@ -111,7 +115,7 @@ fn play_some(
         result.at }
 {
     let mut s = play_next(
-        quiet, source, n, buf, tags, draws, bytes, old, answer, meaning, out, 0,
+        rt, quiet, source, n, buf, tags, draws, bytes, old, answer, meaning, out, 0,
     );
     let mut left: u64 = 4611686018427387904;
     while 0 < left {
@@ -122,25 +126,26 @@ fn play_some(
             return s;
         }
         s = play_next(
-            quiet, behind, s.n, buf, tags, draws, bytes, old, answer, meaning, out, at,
+            rt, quiet, behind, s.n, buf, tags, draws, bytes, old, answer, meaning, out, at,
         );
     }
     s
 }
 
 // Writes the text laid; whether all of it had room and was written. By reckoning it always has room: this is so that none is ever cut.
-fn hand_over(out: &[u8], at: usize) -> bool
+fn hand_over(rt: &HostRuntime, out: &[u8], at: usize) -> bool
     ensures { result ≡ true → at < length out.now }
 {
     if at < out.len() {
-        return say(part_of(out, 0, at));
+        return say(rt, part_of(out, 0, at));
     }
-    io::write_all(STDERR_FILENO, b"output: too long\n");
+    tell(rt, b"output: too long\n");
     false
 }
 
 // Plays every line of the input: at most 2^62 times some lines, which no input outlasts. Whether all that was said was written; if not, it stops there.
 pub fn play_lines(
+    rt: &HostRuntime,
     quiet: bool,
     source: Source,
     buf: &mut [u8],
@@ -162,9 +167,9 @@ pub fn play_lines(
     while 0 < left {
         left -= 1;
         let s = play_some(
-            quiet, from, n, buf, tags, draws, bytes, old, answer, meaning, out,
+            rt, quiet, from, n, buf, tags, draws, bytes, old, answer, meaning, out,
         );
-        if !hand_over(out, s.at) {
+        if !hand_over(rt, out, s.at) {
             return false;
         }
         let behind = s.source;

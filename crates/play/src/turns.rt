@@ -6,10 +6,12 @@ ghost use Rattle.play.specs.Facts.{Room};
 ghost use Rattle.play.specs.Turns.{wrong_text, long_text, draws_text, Turned};
 
 use crate::told::play_event;
+use print::fail::fail;
 use print::hex::put_hex;
 use print::named::put_word_number;
 use print::put::{put_decimal, put_nothing, put_text};
 use script::lines::{Action, action_of};
+use std::random::RandomSource;
 use text::lines::Reached;
 use verbs::trouble::{Trouble, put_trouble};
 
@@ -41,14 +43,16 @@ fn put_draws(out: &mut [u8], at: usize, n: u64, draws: &[u8]) -> usize
 }
 
 // Draws from the system. What fails is written to standard error, and they stay.
-fn draw(draws: &mut [u8]) {
-    if libc::getentropy(draws) != 0 {
-        os::fail(b"draws");
+fn draw(rt: &HostRuntime, draws: &mut [u8]) {
+    match rt.fill_bytes(draws) {
+        Ok(()) => {}
+        Err(why) => fail(rt, b"draws", why),
     }
 }
 
 // Plays line n.
 fn play_line(
+    rt: &HostRuntime,
     quiet: bool,
     line: &[u8],
     n: u64,
@@ -84,7 +88,7 @@ fn play_line(
             )
         }
         Action::Random => {
-            draw(draws);
+            draw(rt, draws);
             put_draws(out, at, n, draws)
         }
         Action::Wrong(trouble) => put_wrong(out, at, n, trouble),
@@ -93,6 +97,7 @@ fn play_line(
 
 // One answer of `next`: line n is played, or is too long. What is said of it is laid into out, from a place on.
 pub fn turn(
+    rt: &HostRuntime,
     quiet: bool,
     reached: Reached,
     line: &[u8],
@@ -112,7 +117,7 @@ pub fn turn(
 {
     match reached {
         Reached::Line => play_line(
-            quiet, line, n, tags, draws, bytes, old, answer, meaning, out, at,
+            rt, quiet, line, n, tags, draws, bytes, old, answer, meaning, out, at,
         ),
         Reached::Long => put_long(out, at, n),
         Reached::End => put_nothing(out, at),

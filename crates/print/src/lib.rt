@@ -1,4 +1,7 @@
-// Text out: laid into a buffer that is lent, and written to standard output.
+// Text out: laid into a buffer that is lent, and written to standard output; and what went wrong, to standard error.
+#![tactic(auto)]
+
+pub mod fail;
 pub mod hex;
 pub mod named;
 pub mod put;

@@ -1,7 +1,10 @@
 // show RACK: prints a rack file as text, or the line why it is refused.
-use libc::STDERR_FILENO;
+#![tactic(auto)]
+
+use print::fail::tell;
 use print::say::say;
 use sheet::tags::put_sheet;
+use text::args::count;
 use text::file::load;
 
 // More than the text of the largest rack.
@@ -12,26 +15,26 @@ fn room() -> [u8; ROOM] {
 }
 
 // What is printed of a file, laid into text and written whole.
-fn show(text: &mut [u8], file: &[u8]) {
+fn show(rt: &HostRuntime, text: &mut [u8], file: &[u8]) {
     let n = put_sheet(text, 0, file);
     if n < text.len() {
-        say(&text[0..n]);
+        say(rt, &text[0..n]);
         return;
     }
-    io::write_all(STDERR_FILENO, b"RACK: its text is too long\n");
+    tell(rt, b"RACK: its text is too long\n");
 }
 
-fn main() {
-    if os::arg_count() != 2 {
-        io::write_all(STDERR_FILENO, b"usage: show RACK\n");
+fn main(rt: HostRuntime) {
+    if count(&rt) != 2 {
+        tell(&rt, b"usage: show RACK\n");
         return;
     }
     let mut file = [0u8; 65537];
-    let loaded = load(1, b"RACK", &mut file);
+    let loaded = load(&rt, 1, b"RACK", &mut file);
     if !loaded.fine {
         return;
     }
     let len = loaded.len;
     let mut text = room();
-    show(&mut text, &file[0..len]);
+    show(&rt, &mut text, &file[0..len]);
 }

@@ -1,6 +1,5 @@
 -- A number of one to nine decimal digits. Assumes nothing.
-use Rattle.std.specs.Prelude.{Bool, ◌&&◌, List, ℕ, eqb, ltb, leb, length}
-use Rattle.frame.specs.Choose.{if◌then◌else◌}
+use Rattle.std.specs.Prelude.{Bool, ◌&&◌, List, ℕ, eqb, ltb, leb, length, if◌then◌else◌}
 use Rattle.print.specs.Decimal.{decimal_value}
 use Rattle.text.specs.Words.{lead}
 use Rattle.text.specs.declared.count.CountRead.{CountRead}

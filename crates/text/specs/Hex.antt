@@ -1,6 +1,5 @@
 -- The values of hex digits. Assumes nothing.
-use Rattle.std.specs.Prelude.{ℕ, ◌-◌, ltb}
-use Rattle.frame.specs.Choose.{if◌then◌else◌}
+use Rattle.std.specs.Prelude.{ℕ, ◌-◌, ltb, if◌then◌else◌}
 use Rattle.text.specs.declared.hex.Nibble.{Nibble}
 use Rattle.text.specs.declared.hex.Nibble.TheVariants.{Digit, Other}
 

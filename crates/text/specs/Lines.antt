@@ -1,7 +1,6 @@
--- Lines from a descriptor, through a buffer: where a line ends, and where the reading stands. Assumes nothing.
-use Rattle.std.specs.Prelude.{Bool, true, false, not, List, ◌≡◌, ℕ, ◌+◌, ◌-◌, ◌≤◌, ◌<◌, eqb, ltb, ℤ, length, get_or, take, drop}
+-- Lines from a reader, through a buffer: where a line ends, and where the reading stands. Assumes nothing.
+use Rattle.std.specs.Prelude.{Bool, true, false, not, List, ◌≡◌, ℕ, ◌+◌, ◌-◌, ◌≤◌, ◌<◌, eqb, ltb, length, get_or, take, drop, if◌then◌else◌}
 use Rattle.std.proofs.lemmas.List.Edits.{sets}
-use Rattle.frame.specs.Choose.{if◌then◌else◌}
 use Rattle.frame.specs.Number.{part}
 use Rattle.text.specs.Words.{lead}
 use Rattle.text.specs.declared.lines.Source.{Source}
@@ -22,11 +21,11 @@ is_end End = true
 
 -- ---- where the reading stands
 
-abbrev pub holds : ℤ → ℕ → ℕ → Source
-holds fd start end = record { fd = fd; start = start; end = end; done = false }
+abbrev pub holds : ℕ → ℕ → Source
+holds start end = record { start = start; end = end; done = false }
 
-abbrev pub ended_at : ℤ → Source
-ended_at fd = record { fd = fd; start = 0; end = 0; done = true }
+abbrev pub ended_at : Source
+ended_at = record { start = 0; end = 0; done = true }
 
 -- ---- what is found
 
@@ -50,12 +49,12 @@ abbrev pub line_at : List ℕ → ℕ → ℕ → Source → Got
 line_at s from to source = record { reached = Line; from = from; to = line_end s from to; source = source }
 
 -- the last line, which no newline ends, unless nothing is left
-unfoldable pub last_line : ℤ → ℕ → Got
-last_line fd to = if eqb to 0 then no_line End (ended_at fd) else record { reached = Line; from = 0; to = to; source = ended_at fd }
+unfoldable pub last_line : ℕ → Got
+last_line to = if eqb to 0 then no_line End ended_at else record { reached = Line; from = 0; to = to; source = ended_at }
 
 -- no more comes: what stood before a read that failed is no line
-unfoldable pub stopped_at : ℤ → ℕ → Bool → Got
-stopped_at fd to fine = if fine then last_line fd to else no_line End (ended_at fd)
+unfoldable pub stopped_at : ℕ → Bool → Got
+stopped_at to fine = if fine then last_line to else no_line End ended_at
 
 -- ---- the next line
 
@@ -71,11 +70,11 @@ pub data Next : Type 0 where
 unfoldable pub next_of : Source → List ℕ → Next
 next_of s buf =
     if s.done then Found (no_line End s)
-    else if ltb (length buf) s.end then Found (no_line End (ended_at s.fd))
-    else if ltb s.end s.start then Found (no_line End (ended_at s.fd))
+    else if ltb (length buf) s.end then Found (no_line End ended_at)
+    else if ltb s.end s.start then Found (no_line End ended_at)
     else
     let at = newline_in buf s.start s.end in
-    if ltb at s.end then Found (line_at buf s.start at (holds s.fd (at + 1) s.end))
+    if ltb at s.end then Found (line_at buf s.start at (holds (at + 1) s.end))
     else Wanting (s.end - s.start) (to_front buf s.start s.end)
 
 -- no read is needed
@@ -84,21 +83,21 @@ is_found (Found g) = true
 is_found (Wanting n front) = false
 
 -- where the reading stands behind a line that was too long: at the input's end, or behind the newline, which is among the m bytes of the last read
-pub data Passed (fd : ℤ) (new : List ℕ) (g : Got) : Type 0 where
-  Ended : g ≡ no_line Long (ended_at fd) → Passed fd new g
-  Behind : (m : ℕ) → m ≤ length new → newline_in new 0 m < m → g ≡ no_line Long (holds fd (newline_in new 0 m + 1) m) → Passed fd new g
+pub data Passed (new : List ℕ) (g : Got) : Type 0 where
+  Ended : g ≡ no_line Long ended_at → Passed new g
+  Behind : (m : ℕ) → m ≤ length new → newline_in new 0 m < m → g ≡ no_line Long (holds (newline_in new 0 m + 1) m) → Passed new g
 
 -- reads may bring any bytes behind the first n, which stay; what is found is told by the buffer that they leave
-pub data Brought (fd : ℤ) (n : ℕ) (old new : List ℕ) (g : Got) : Type 0 where
+pub data Brought (n : ℕ) (old new : List ℕ) (g : Got) : Type 0 where
   -- m bytes are in it, a newline among those behind the first n
   Whole : (m : ℕ) → m ≤ length new → take n new ≡ take n old → newline_in new n m < m
-      → g ≡ line_at new 0 (newline_in new n m) (holds fd (newline_in new n m + 1) m) → Brought fd n old new g
+      → g ≡ line_at new 0 (newline_in new n m) (holds (newline_in new n m + 1) m) → Brought n old new g
   -- m bytes are in it, none of those a newline, and no more comes
-  Last : (m : ℕ) (fine : Bool) → m ≤ length new → take n new ≡ take n old → newline_in new n m ≡ m → g ≡ stopped_at fd m fine → Brought fd n old new g
+  Last : (m : ℕ) (fine : Bool) → m ≤ length new → take n new ≡ take n old → newline_in new n m ≡ m → g ≡ stopped_at m fine → Brought n old new g
   -- it was full without one, and the rest of the line was passed over
-  TooLong : Passed fd new g → Brought fd n old new g
+  TooLong : Passed new g → Brought n old new g
 
 -- what comes of it, the buffer as it was and as it is left
-abbrev pub Follows : Next → ℤ → List ℕ → List ℕ → Got → Type 0
-Follows (Found g) fd old new r = (r ≡ g) × (new ≡ old)
-Follows (Wanting n front) fd old new r = Brought fd n front new r
+abbrev pub Follows : Next → List ℕ → List ℕ → Got → Type 0
+Follows (Found g) old new r = (r ≡ g) × (new ≡ old)
+Follows (Wanting n front) old new r = Brought n front new r

@@ -1,6 +1,5 @@
 -- The mark that may stand before a text in UTF-8. Assumes nothing.
-use Rattle.std.specs.Prelude.{◌&&◌, List, ℕ, eqb, get_or}
-use Rattle.frame.specs.Choose.{if◌then◌else◌}
+use Rattle.std.specs.Prelude.{◌&&◌, List, ℕ, eqb, get_or, if◌then◌else◌}
 
 -- its length: 0 where there is none
 unfoldable pub mark_length : List ℕ → ℕ

@@ -1,6 +1,5 @@
 -- A run of hex: pairs of digits, gaps around pairs and `0x` before them, up to the end or a `#` behind a blank. Assumes nothing.
-use Rattle.std.specs.Prelude.{Bool, true, false, ◌&&◌, ◌||◌, List, [], ◌∷◌, ℕ, suc, ◌+◌, ◌*◌, eqb, ltb, leb, length, get_or}
-use Rattle.frame.specs.Choose.{if◌then◌else◌}
+use Rattle.std.specs.Prelude.{Bool, true, false, ◌&&◌, ◌||◌, List, [], ◌∷◌, ℕ, suc, ◌+◌, ◌*◌, eqb, ltb, leb, length, get_or, if◌then◌else◌}
 use Rattle.text.specs.declared.hex.Nibble.{Nibble}
 use Rattle.text.specs.declared.hex.Nibble.TheVariants.{Digit, Other}
 use Rattle.text.specs.declared.hex.HexRun.{HexRun}

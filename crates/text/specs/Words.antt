@@ -1,6 +1,5 @@
 -- Words of a line, parted by blanks: spaces and tabs. Assumes nothing.
-use Rattle.std.specs.Prelude.{Bool, true, false, not, ◌&&◌, ◌||◌, List, [], ◌∷◌, ℕ, suc, ◌+◌, eqb, ltb, length, get_or, take, drop}
-use Rattle.frame.specs.Choose.{if◌then◌else◌}
+use Rattle.std.specs.Prelude.{Bool, true, false, not, ◌&&◌, ◌||◌, List, [], ◌∷◌, ℕ, suc, ◌+◌, eqb, ltb, length, get_or, take, drop, if◌then◌else◌}
 use Rattle.text.specs.declared.words.Keyword.{Keyword}
 use Rattle.text.specs.declared.words.Keyword.TheVariants as w
 use Rattle.text.specs.declared.words.FirstWord.{FirstWord}

@@ -2,7 +2,7 @@
 ghost use Rattle.std.specs.Prelude.{◌≡◌, ◌≤◌, length};
 ghost use Rattle.text.specs.Count.{decimal_in, count_in};
 
-#[derive(Drop)]
+#[derive(Clone, Copy)]
 pub enum CountRead {
     Count(u64),
     Other,

@@ -8,7 +8,7 @@ ghost use Rattle.text.specs.RunsPlaces.{blank_before, passed_at, piece_at};
 use crate::words::{is_blank, lower};
 
 // What a byte of text is as a hex digit.
-#[derive(Drop)]
+#[derive(Clone, Copy)]
 pub enum Nibble {
     Digit(u8),
     Other,
@@ -16,7 +16,7 @@ pub enum Nibble {
 
 // How a run of hex ended: so many bytes were read; at the place of a byte that is no hex digit; at the place of a digit that stands alone; with more
 // bytes than there is room for.
-#[derive(Drop)]
+#[derive(Clone, Copy)]
 pub enum HexRun {
     Good(usize),
     Bad(usize),
@@ -25,7 +25,7 @@ pub enum HexRun {
 }
 
 // What stands at a place of a run: a byte, or the run's end.
-#[derive(Drop)]
+#[derive(Clone, Copy)]
 enum Piece {
     Byte(u8),
     Stop(HexRun),

@@ -1,4 +1,4 @@
-// Lines from a descriptor, through a buffer that the caller lends.
+// Lines from a reader, through a buffer that the caller lends.
 //
 // A line is what stands before a newline, or before the end of the input, without a carriage return right before its newline. A line of as many
 // bytes as the buffer has, or more, is too long, and is passed over to its newline.
@@ -7,18 +7,18 @@ ghost use Rattle.text.specs.Lines.{Inside, is_end, holds, ended_at, no_line, new
 ghost use Rattle.text.specs.Lines.{next_of, is_found, Passed, Brought, Follows};
 
 use crate::file::read_part;
+use std::io::Read;
 
 // Where the reading stands: buf[start..end] was read and not handed out; `done`: the input has ended.
-#[derive(Drop)]
+#[derive(Clone, Copy)]
 pub struct Source {
-    pub fd: i32,
     pub start: usize,
     pub end: usize,
     pub done: bool,
 }
 
 // How a read of a line ended: at a line; at a line that was too long, now passed; at the end of the input.
-#[derive(Drop)]
+#[derive(Clone, Copy)]
 pub enum Reached {
     Line,
     Long,
@@ -26,7 +26,7 @@ pub enum Reached {
 }
 
 // What a call found. A line is buf[from..to], till the next call.
-#[derive(Drop)]
+#[derive(Clone, Copy)]
 pub struct Got {
     pub reached: Reached,
     pub from: usize,
@@ -44,28 +44,27 @@ pub fn is_end(reached: Reached) -> bool
     }
 }
 
-fn holding(fd: i32, start: usize, end: usize) -> Source
-    ensures { result ≡ holds fd start end }
+fn holding(start: usize, end: usize) -> Source
+    ensures { result ≡ holds start end }
 {
     Source {
-        fd: fd,
         start: start,
         end: end,
         done: false,
     }
 }
 
-pub fn source_of(fd: i32) -> Source
-    ensures { result ≡ holds fd 0 0 }
+// The source of a reader of which nothing was read yet.
+pub fn source_of() -> Source
+    ensures { result ≡ holds 0 0 }
 {
-    holding(fd, 0, 0)
+    holding(0, 0)
 }
 
-fn ended(fd: i32) -> Source
-    ensures { result ≡ ended_at fd }
+fn ended() -> Source
+    ensures { result ≡ ended_at }
 {
     Source {
-        fd: fd,
         start: 0,
         end: 0,
         done: true,
@@ -85,11 +84,11 @@ fn other(reached: Reached, source: Source) -> Got
     }
 }
 
-// The next line of a source that was used with this buffer only, which has room for a byte. It reads until a line is whole or the input has ended; a
-// read that fails ends the input, and its cause is written to standard error.
-pub fn next(s: Source, buf: &mut [u8]) -> Got
+// The next line of a source that was used with this reader and this buffer only, which has room for a byte. It reads until a line is whole or the
+// input has ended; a read that fails ends the input, and its cause is written to standard error.
+pub fn next<R: Read>(rt: &HostRuntime, reader: &mut R, s: Source, buf: &mut [u8]) -> Got
     ensures inside { Inside result (length buf.new) }
-    ensures follows { Follows (next_of s buf.old) s.fd buf.old buf.new result }
+    ensures follows { Follows (next_of s buf.old) buf.old buf.new result }
 {
     let start = s.start;
     let end = s.end;
@@ -97,17 +96,17 @@ pub fn next(s: Source, buf: &mut [u8]) -> Got
         return other(Reached::End, s);
     }
     if buf.len() < end {
-        return other(Reached::End, ended(s.fd));
+        return other(Reached::End, ended());
     }
     if end < start {
-        return other(Reached::End, ended(s.fd));
+        return other(Reached::End, ended());
     }
     let at = newline(buf, start, end);
     if at < end {
-        return line(buf, start, at, holding(s.fd, at + 1, end));
+        return line(buf, start, at, holding(at + 1, end));
     }
     let n = to_front(buf, start, end);
-    fill(s.fd, n, buf)
+    fill(rt, reader, n, buf)
 }
 
 // Whether `next` gives its answer without a read, which may have to wait.
@@ -160,18 +159,18 @@ fn line(buf: &[u8], from: usize, to: usize, source: Source) -> Got
 }
 
 // The last line, buf[0..to], which no newline ends, unless nothing is left.
-fn last(fd: i32, to: usize) -> Got
+fn last(to: usize) -> Got
     ensures inside { Inside result to }
-    ensures value { result ≡ last_line fd to }
+    ensures value { result ≡ last_line to }
 {
     if to == 0 {
-        return other(Reached::End, ended(fd));
+        return other(Reached::End, ended());
     }
     Got {
         reached: Reached::Line,
         from: 0,
         to: to,
-        source: ended(fd),
+        source: ended(),
     }
 }
 
@@ -213,65 +212,56 @@ fn to_front(buf: &mut [u8], start: usize, end: usize) -> usize
     n
 }
 
-// Writes why a read failed, where it did.
-fn tell(fine: bool) {
-    if !fine {
-        os::fail(b"input");
-    }
-}
-
 // No more comes behind buf[0..to]: the input has ended, or a read has failed. What stood before a read that failed is no line.
-fn stopped(fd: i32, to: usize, fine: bool) -> Got
+fn stopped(to: usize, fine: bool) -> Got
     ensures inside { Inside result to }
-    ensures value { result ≡ stopped_at fd to fine }
+    ensures value { result ≡ stopped_at to fine }
 {
-    tell(fine);
     if !fine {
-        return other(Reached::End, ended(fd));
+        return other(Reached::End, ended());
     }
-    last(fd, to)
+    last(to)
 }
 
 // Reads behind buf's first n bytes, which have no newline, until a line is whole.
-fn fill(fd: i32, n: usize, buf: &mut [u8]) -> Got
+fn fill<R: Read>(rt: &HostRuntime, reader: &mut R, n: usize, buf: &mut [u8]) -> Got
     requires { n ≤ length buf.old }
     ensures inside { Inside result (length buf.new) }
-    ensures brought { Brought fd n buf.old buf.new result }
+    ensures brought { Brought n buf.old buf.new result }
 {
     let mut end = n;
     while end < buf.len() {
-        let more = read_part(fd, &mut buf[end..]);
+        let more = read_part(rt, reader, b"input", &mut buf[end..]);
         if more.len == 0 {
-            return stopped(fd, end, more.fine);
+            return stopped(end, more.fine);
         }
         let to = end + more.len;
         let at = newline(buf, end, to);
         if at < to {
-            return line(buf, 0, at, holding(fd, at + 1, to));
+            return line(buf, 0, at, holding(at + 1, to));
         }
         end = to;
     }
-    pass(fd, buf)
+    pass(rt, reader, buf)
 }
 
 // Passes over the rest of a line that is too long: at most 2^62 reads, which no input outlasts.
-fn pass(fd: i32, buf: &mut [u8]) -> Got
+fn pass<R: Read>(rt: &HostRuntime, reader: &mut R, buf: &mut [u8]) -> Got
     ensures inside { Inside result (length buf.new) }
-    ensures passed { Passed fd buf.new result }
+    ensures passed { Passed buf.new result }
 {
     let mut left: u64 = 4611686018427387904;
     while 0 < left {
         left -= 1;
-        let part = read_part(fd, buf);
+        let part = read_part(rt, reader, b"input", buf);
         let n = part.len;
         if n == 0 {
-            tell(part.fine);
-            return other(Reached::Long, ended(fd));
+            return other(Reached::Long, ended());
         }
         let at = newline(buf, 0, n);
         if at < n {
-            return other(Reached::Long, holding(fd, at + 1, n));
+            return other(Reached::Long, holding(at + 1, n));
         }
     }
-    other(Reached::Long, ended(fd))
+    other(Reached::Long, ended())
 }

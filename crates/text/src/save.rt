@@ -1,38 +1,27 @@
 // A file saved whole: whenever the program or the machine stops, the path has the old bytes or the new ones, each from the first to the last.
 ghost use Rattle.std.specs.Prelude.{◌≤◌, length};
-ghost use Rattle.libc.specs.Io.{Ended};
 
-use libc::PATH_MAX;
+use crate::args::PATH_MAX;
+use crate::file::path_text;
+use print::fail::fail;
 use print::hex::put_byte;
 use print::put::put_text;
+use std::fs::{File, OpenOptions};
+use std::io::{ErrorKind, Write};
+use std::random::RandomSource;
+use std::{fs, io};
 
 const LAST: usize = PATH_MAX - 1;
 
-// A path as C reads it, up to a 0, for the one call that the library os has no function for.
-fn ended(path: &[u8]) -> [u8; PATH_MAX]
-    ensures { Ended result }
-{
-    let mut ended = io::buffer();
-    let mut i = 0;
-    while i < path.len() {
-        if i >= LAST {
-            break;
-        }
-        ended[i] = path[i];
-        i += 1;
-    }
-    ended[LAST] = 0;
-    ended
-}
+// The system's number for a path that is too long.
+const ENAMETOOLONG: i32 = 36;
 
 // Whether a path is a symbolic link.
-fn is_link(path: &[u8]) -> bool {
-    if LAST < path.len() {
-        return false;
+fn is_link(rt: &HostRuntime, path: &str) -> bool {
+    match fs::symlink_metadata(rt, path) {
+        Ok(found) => found.is_symlink(),
+        Err(_) => false,
     }
-    let whole = ended(path);
-    let mut to = [0u8; 1];
-    0 <= libc::readlink(&whole, &mut to)
 }
 
 // Where the name in a path begins: behind the last slash.
@@ -50,63 +39,67 @@ fn name_start(path: &[u8]) -> usize
 }
 
 // Has the system keep the names in a folder as they are now.
-fn keep_names(folder: &[u8]) -> bool {
-    let fd = os::open_read(folder);
-    if fd < 0 {
-        return false;
-    }
-    let kept = libc::fsync(fd);
-    libc::close(fd);
-    kept == 0
+fn keep_names(rt: &HostRuntime, folder: &[u8]) -> io::Result<()> {
+    let open = fs::open(rt, path_text(folder)?)?;
+    open.sync_all()
 }
 
 // The same of the folder that a path's name stands in.
-fn keep_name(path: &[u8]) -> bool {
+fn keep_name(rt: &HostRuntime, path: &[u8]) -> io::Result<()> {
     let n = name_start(path);
     if n == 0 {
-        return keep_names(b".");
+        return keep_names(rt, b".");
     }
-    keep_names(&path[0..n])
+    keep_names(rt, &path[0..n])
 }
 
 // Writes bytes, has the system keep them, and closes the file.
-fn keep(fd: i32, bytes: &[u8]) -> bool {
-    if !io::write_all(fd, bytes) {
-        libc::close(fd);
-        return false;
-    }
-    if libc::fsync(fd) != 0 {
-        libc::close(fd);
-        return false;
-    }
-    libc::close(fd) == 0
+fn keep(file: File, bytes: &[u8]) -> io::Result<()> {
+    let mut to = file;
+    to.write_all(bytes)?;
+    to.sync_all()
 }
 
 // Writes bytes and closes what takes them, which may be none that the system can keep.
-fn hand_over(fd: i32, bytes: &[u8]) -> bool {
-    if !io::write_all(fd, bytes) {
-        libc::close(fd);
-        return false;
+fn hand_over(file: File, bytes: &[u8]) -> io::Result<()> {
+    let mut to = file;
+    to.write_all(bytes)?;
+    let _ = to.sync_all();
+    Ok(())
+}
+
+// Makes the file under another name, which must be free.
+fn make(rt: &HostRuntime, name: &str, bytes: &[u8]) -> io::Result<()> {
+    let made = OpenOptions::new()
+        .write(true)
+        .create_new(true)
+        .open(rt, name)?;
+    match keep(made, bytes) {
+        Ok(()) => Ok(()),
+        Err(why) => {
+            let _ = fs::remove_file(rt, name);
+            Err(why)
+        }
     }
-    libc::fsync(fd);
-    libc::close(fd) == 0
+}
+
+// Moves a file from its name to a path, or removes it where that fails.
+fn rename(rt: &HostRuntime, name: &str, path: &str) -> io::Result<()> {
+    match fs::rename(rt, name, path) {
+        Ok(()) => Ok(()),
+        Err(why) => {
+            let _ = fs::remove_file(rt, name);
+            Err(why)
+        }
+    }
 }
 
 // Makes the file under another name, and moves it to its path when it is whole.
-fn move_in(name: &[u8], path: &[u8], bytes: &[u8]) -> bool {
-    let fd = os::create(name);
-    if fd < 0 {
-        return false;
-    }
-    if !keep(fd, bytes) {
-        os::unlink(name);
-        return false;
-    }
-    if os::rename(name, path) != 0 {
-        os::unlink(name);
-        return false;
-    }
-    keep_name(path)
+fn move_in(rt: &HostRuntime, name: &[u8], path: &[u8], bytes: &[u8]) -> io::Result<()> {
+    let beside = path_text(name)?;
+    make(rt, beside, bytes)?;
+    rename(rt, beside, path_text(path)?)?;
+    keep_name(rt, path)
 }
 
 // The name beside a path: a dot and six digits behind it. Returns its length.
@@ -121,52 +114,59 @@ fn put_name(out: &mut [u8], path: &[u8], draw: [u8; 3]) -> usize
 }
 
 // Puts a new file in the place of a path.
-fn replace(path: &[u8], bytes: &[u8]) -> bool {
-    let mut draw = [0u8; 3];
+fn replace(rt: &HostRuntime, path: &[u8], bytes: &[u8]) -> io::Result<()> {
     if LAST < path.len() {
-        return false;
+        return Err(io::Error::from_raw_os_error(ENAMETOOLONG));
     }
-    if libc::getentropy(&mut draw) != 0 {
-        return false;
-    }
+    let mut draw = [0u8; 3];
+    rt.fill_bytes(&mut draw)?;
     let mut name = [0u8; PATH_MAX + 7];
     let n = put_name(&mut name, path, draw);
-    move_in(&name[0..n], path, bytes)
+    move_in(rt, &name[0..n], path, bytes)
 }
 
-// A link is followed, and a device or a pipe, which the system has nothing to keep of, is written to; a new file takes the place of any other.
-fn save_at(path: &[u8], bytes: &[u8]) -> bool {
-    if is_link(path) {
-        let fd = os::open_overwrite(path);
-        if fd < 0 {
-            return false;
+// What stands at a path takes bytes: a device or a pipe, which the system has nothing to keep of, is written to; a new file takes the place of any
+// other.
+fn save_over(rt: &HostRuntime, old: File, path: &[u8], bytes: &[u8]) -> io::Result<()> {
+    match old.sync_all() {
+        Ok(()) => {
+            drop(old);
+            replace(rt, path, bytes)
         }
-        return hand_over(fd, bytes);
-    }
-    let old = os::open_append(path);
-    if old < 0 {
-        if os::errno() == libc::ENOENT {
-            return replace(path, bytes);
+        Err(why) => {
+            if why.kind() != ErrorKind::InvalidInput {
+                return Err(why);
+            }
+            let _ = old.set_len(0);
+            hand_over(old, bytes)
         }
-        return false;
     }
-    if libc::fsync(old) == 0 {
-        libc::close(old);
-        return replace(path, bytes);
+}
+
+// A link is followed; where nothing stands, a new file is made.
+fn save_at(rt: &HostRuntime, path: &[u8], bytes: &[u8]) -> io::Result<()> {
+    let text = path_text(path)?;
+    if is_link(rt, text) {
+        return hand_over(fs::create(rt, text)?, bytes);
     }
-    if os::errno() != libc::EINVAL {
-        libc::close(old);
-        return false;
+    match OpenOptions::new().append(true).open(rt, text) {
+        Ok(old) => save_over(rt, old, path, bytes),
+        Err(why) => {
+            if why.kind() == ErrorKind::NotFound {
+                return replace(rt, path, bytes);
+            }
+            Err(why)
+        }
     }
-    libc::ftruncate(old, 0);
-    hand_over(old, bytes)
 }
 
 // Saves bytes at a path, and says whether they are safe there. If not, the cause is written to standard error.
-pub fn save(path: &[u8], bytes: &[u8]) -> bool {
-    if save_at(path, bytes) {
-        return true;
+pub fn save(rt: &HostRuntime, path: &[u8], bytes: &[u8]) -> bool {
+    match save_at(rt, path, bytes) {
+        Ok(()) => true,
+        Err(why) => {
+            fail(rt, path, why);
+            false
+        }
     }
-    os::fail(path);
-    false
 }

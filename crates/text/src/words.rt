@@ -4,7 +4,7 @@ ghost use Rattle.text.specs.Words.{is_blank, solid, lead, lowered, same_word, ba
 
 // What the first word of a line is: Empty where it has only blanks, Comment where its first byte but blanks is `#`. LabelSeal and ChipSeal are the
 // words with a `+`: the check sum is to be added.
-#[derive(Drop)]
+#[derive(Clone, Copy)]
 pub enum Keyword {
     Empty,
     Comment,
@@ -20,7 +20,7 @@ pub enum Keyword {
 }
 
 // The first word of a line and the place behind it, where the rest starts: the end of the line for a comment.
-#[derive(Drop)]
+#[derive(Clone, Copy)]
 pub struct FirstWord {
     pub word: Keyword,
     pub rest: usize,

@@ -21,7 +21,6 @@ use crate::changes::print_changes;
 use crate::replies::{play_event, print_trouble};
 use crate::{racks, readers, sums};
 use frame::number::byte_at;
-use libc::STDIN_FILENO;
 use print::say::say;
 use script::lines::{Action, action_of};
 use text::hex::{HexRun, read_bytes};
@@ -72,19 +71,19 @@ fn poke(line: &[u8], tags: &mut [u8]) {
 }
 
 // A line as the program play takes it.
-fn play_line(line: &[u8], tags: &mut [u8], draws: &mut [u8]) {
+fn play_line(rt: &HostRuntime, line: &[u8], tags: &mut [u8], draws: &mut [u8]) {
     let mut bytes = [0u8; 512];
     let action = action_of(line, draws, &mut bytes);
     match action {
         Action::Nothing => {}
         Action::Play(number, n) => {
-            say(b" ->");
-            play_event(tags, number, &bytes[0..n], draws);
+            say(rt, b" ->");
+            play_event(rt, tags, number, &bytes[0..n], draws);
         }
         Action::Random => {}
         Action::Wrong(trouble) => {
-            say(b" -> ");
-            print_trouble(trouble);
+            say(rt, b" -> ");
+            print_trouble(rt, trouble);
         }
     }
 }
@@ -97,49 +96,49 @@ fn is_ours(mark: u8) -> bool {
     }
 }
 
-fn act(mark: u8, bytes: &[u8], tags: &mut [u8], draws: &[u8]) {
+fn act(rt: &HostRuntime, mark: u8, bytes: &[u8], tags: &mut [u8], draws: &[u8]) {
     match mark {
-        b'a' => readers::answer(bytes),
-        b'f' => readers::frame(bytes),
-        b'i' => racks::into(bytes, tags),
-        b'm' => sums::mask(bytes),
-        b'n' => readers::narrow(bytes),
-        b'r' => readers::request(bytes, tags, draws),
-        b's' => sums::sum(bytes),
-        b't' => racks::try_event(bytes, tags),
-        b'w' => racks::walk_all(bytes, tags),
+        b'a' => readers::answer(rt, bytes),
+        b'f' => readers::frame(rt, bytes),
+        b'i' => racks::into(rt, bytes, tags),
+        b'm' => sums::mask(rt, bytes),
+        b'n' => readers::narrow(rt, bytes),
+        b'r' => readers::request(rt, bytes, tags, draws),
+        b's' => sums::sum(rt, bytes),
+        b't' => racks::try_event(rt, bytes, tags),
+        b'w' => racks::walk_all(rt, bytes, tags),
         _ => {}
     }
 }
 
 // A line of ours.
-fn our_line(mark: u8, line: &[u8], tags: &mut [u8], draws: &[u8]) {
+fn our_line(rt: &HostRuntime, mark: u8, line: &[u8], tags: &mut [u8], draws: &[u8]) {
     let said = first_word(line);
     let rest = said.rest;
     let mut bytes = [0u8; 512];
     let n = read_hex(&line[rest..], &mut bytes);
-    say(b" -> ");
-    act(mark, &bytes[0..n], tags, draws);
+    say(rt, b" -> ");
+    act(rt, mark, &bytes[0..n], tags, draws);
 }
 
-fn any_line(mark: u8, line: &[u8], tags: &mut [u8], draws: &mut [u8]) {
+fn any_line(rt: &HostRuntime, mark: u8, line: &[u8], tags: &mut [u8], draws: &mut [u8]) {
     if is_ours(mark) {
-        our_line(mark, line, tags, draws);
+        our_line(rt, mark, line, tags, draws);
         return;
     }
-    play_line(line, tags, draws);
+    play_line(rt, line, tags, draws);
 }
 
 // A line and what it changed.
-fn change(mark: u8, line: &[u8], tags: &mut [u8], draws: &mut [u8]) {
+fn change(rt: &HostRuntime, mark: u8, line: &[u8], tags: &mut [u8], draws: &mut [u8]) {
     let mut old = [0u8; 16384];
     copy(tags, &mut old);
-    any_line(mark, line, tags, draws);
-    print_changes(&old, tags);
+    any_line(rt, mark, line, tags, draws);
+    print_changes(rt, &old, tags);
 }
 
 // A line, with a rack in the first len bytes of tags; returns the length of the rack now.
-fn take(line: &[u8], tags: &mut [u8], len: usize, draws: &mut [u8]) -> usize {
+fn take(rt: &HostRuntime, line: &[u8], tags: &mut [u8], len: usize, draws: &mut [u8]) -> usize {
     if line.len() == 0 {
         return len;
     }
@@ -154,17 +153,24 @@ fn take(line: &[u8], tags: &mut [u8], len: usize, draws: &mut [u8]) -> usize {
         poke(&line[1..], &mut tags[0..len]);
         return len;
     }
-    change(mark, line, &mut tags[0..len], draws);
+    change(rt, mark, line, &mut tags[0..len], draws);
     len
 }
 
 // One answer of `next`.
-fn turn(reached: Reached, line: &[u8], tags: &mut [u8], len: usize, draws: &mut [u8]) -> usize {
+fn turn(
+    rt: &HostRuntime,
+    reached: Reached,
+    line: &[u8],
+    tags: &mut [u8],
+    len: usize,
+    draws: &mut [u8],
+) -> usize {
     match reached {
         Reached::Line => {
-            say(line);
-            let now = take(line, tags, len, draws);
-            say(b"\n");
+            say(rt, line);
+            let now = take(rt, line, tags, len, draws);
+            say(rt, b"\n");
             now
         }
         Reached::Long => len,
@@ -173,28 +179,29 @@ fn turn(reached: Reached, line: &[u8], tags: &mut [u8], len: usize, draws: &mut 
 }
 
 // Every line of the input: at most 2^62 turns, which no input outlasts.
-fn lines(buf: &mut [u8], tags: &mut [u8], draws: &mut [u8]) {
-    let mut source = source_of(STDIN_FILENO);
+fn lines(rt: &HostRuntime, buf: &mut [u8], tags: &mut [u8], draws: &mut [u8]) {
+    let mut input = rt.stdin();
+    let mut source = source_of();
     let mut len: usize = 0;
     let mut left: u64 = 4611686018427387904;
     while 0 < left {
         left -= 1;
-        let got = next(source, buf);
+        let got = next(rt, &mut input, source, buf);
         let reached = got.reached;
         if is_end(reached) {
             return;
         }
         let from = got.from;
         let to = got.to;
-        len = turn(reached, &buf[from..to], tags, len, draws);
+        len = turn(rt, reached, &buf[from..to], tags, len, draws);
         let s = got.source;
         source = s;
     }
 }
 
-pub fn run() {
+pub fn run(rt: &HostRuntime) {
     let mut buf = [0u8; 65536];
     let mut tags = [0u8; 16384];
     let mut draws = [0u8; 64];
-    lines(&mut buf, &mut tags, &mut draws);
+    lines(rt, &mut buf, &mut tags, &mut draws);
 }

@@ -1,4 +1,6 @@
 // Published vectors and worked cases, from standard input, run and written out: the file stdout has what they must be, from the documents.
+#![tactic(auto)]
+
 mod changes;
 mod lines;
 mod meanings;
@@ -7,12 +9,13 @@ mod readers;
 mod replies;
 mod sums;
 
-use libc::STDERR_FILENO;
+use print::fail::tell;
+use text::args::count;
 
-fn main() {
-    if 1 < os::arg_count() {
-        io::write_all(STDERR_FILENO, b"usage: vectors\n");
+fn main(rt: HostRuntime) {
+    if 1 < count(&rt) {
+        tell(&rt, b"usage: vectors\n");
         return;
     }
-    lines::run();
+    lines::run(&rt);
 }

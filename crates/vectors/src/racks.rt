@@ -10,21 +10,21 @@ use request::label::Family;
 const ROOM: usize = 8480;
 
 // Says so where a buffer has not the byte EE everywhere.
-fn stays(out: &[u8]) {
+fn stays(rt: &HostRuntime, out: &[u8]) {
     let mut i = 0;
     while i < out.len() {
         if out[i] != 0xEE {
-            say(b", buffer changed");
+            say(rt, b", buffer changed");
             return;
         }
         i += 1;
     }
 }
 
-fn print_report(r: Report) {
-    say_number(b"number ", r.number as u64);
-    say_number(b", answered ", r.answered as u64);
-    say_number(b", length ", r.length as u64);
+fn print_report(rt: &HostRuntime, r: Report) {
+    say_number(rt, b"number ", r.number as u64);
+    say_number(rt, b", answered ", r.answered as u64);
+    say_number(rt, b", length ", r.length as u64);
 }
 
 // An event, with nothing promised of it: its contract would weigh on the check of every caller.
@@ -32,12 +32,12 @@ pub fn play(number: u8, frame: &[u8], tags: &mut [u8], draws: &[u8], answer: &mu
     event(tags, number, frame, draws, answer)
 }
 
-fn play_into(number: u8, tags: &mut [u8], draws: &[u8], answer: &mut [u8]) {
-    print_report(play(number, b"", tags, draws, answer));
-    stays(answer);
+fn play_into(rt: &HostRuntime, number: u8, tags: &mut [u8], draws: &[u8], answer: &mut [u8]) {
+    print_report(rt, play(number, b"", tags, draws, answer));
+    stays(rt, answer);
 }
 
-pub fn try_event(bytes: &[u8], tags: &mut [u8]) {
+pub fn try_event(rt: &HostRuntime, bytes: &[u8], tags: &mut [u8]) {
     let n = byte_at(bytes, 1) as usize;
     let room = byte_at(bytes, 2) as usize * 256 + byte_at(bytes, 3) as usize;
     if 8 < n {
@@ -48,13 +48,19 @@ pub fn try_event(bytes: &[u8], tags: &mut [u8]) {
     }
     let draws = [0u8; 8];
     let mut answer = [0xEEu8; ROOM];
-    play_into(byte_at(bytes, 0), tags, &draws[0..n], &mut answer[0..room]);
+    play_into(
+        rt,
+        byte_at(bytes, 0),
+        tags,
+        &draws[0..n],
+        &mut answer[0..room],
+    );
 }
 
-fn print_walked(w: Walked) {
-    say_number(b"number ", w.number as u64);
-    say_number(b", labels ", w.labels as u64);
-    say_number(b", rounds ", w.rounds as u64);
+fn print_walked(rt: &HostRuntime, w: Walked) {
+    say_number(rt, b"number ", w.number as u64);
+    say_number(rt, b", labels ", w.labels as u64);
+    say_number(rt, b", rounds ", w.rounds as u64);
 }
 
 // A walk, with nothing promised of it, for the same reason.
@@ -62,18 +68,18 @@ fn walked(tags: &mut [u8], family: Family, list: &mut [u8]) -> Walked {
     walk(tags, family, list)
 }
 
-fn walk_into(tags: &mut [u8], list: &mut [u8]) {
-    print_walked(walked(tags, Family::Any, list));
-    stays(list);
+fn walk_into(rt: &HostRuntime, tags: &mut [u8], list: &mut [u8]) {
+    print_walked(rt, walked(tags, Family::Any, list));
+    stays(rt, list);
 }
 
-pub fn into(bytes: &[u8], tags: &mut [u8]) {
+pub fn into(rt: &HostRuntime, bytes: &[u8], tags: &mut [u8]) {
     let room = byte_at(bytes, 0) as usize;
     if 32 < room {
         return;
     }
     let mut list = [0xEEu8; 32];
-    walk_into(tags, &mut list[0..room]);
+    walk_into(rt, tags, &mut list[0..room]);
 }
 
 // The family that a byte names, or any where there is none.
@@ -85,31 +91,31 @@ fn family_of(bytes: &[u8]) -> Family {
 }
 
 // The UIDs of the first n labels of a list, high byte first, a space before each.
-fn print_uids(list: &[u8], n: usize) {
+fn print_uids(rt: &HostRuntime, list: &[u8], n: usize) {
     let mut i = 0;
     while i < n {
         if list.len() / 8 <= i {
             return;
         }
-        say(b" ");
-        print_uid(uid_at(list, 8 * i));
+        say(rt, b" ");
+        print_uid(rt, uid_at(list, 8 * i));
         i += 1;
     }
 }
 
 // The rounds and the labels of a walk, or its refusal.
-fn print_list(w: Walked, list: &[u8]) {
+fn print_list(rt: &HostRuntime, w: Walked, list: &[u8]) {
     if w.number != 0 {
-        say_number(b"refused ", w.number as u64);
+        say_number(rt, b"refused ", w.number as u64);
         return;
     }
-    say_number(b"rounds ", w.rounds as u64);
-    say_number(b" labels ", w.labels as u64);
-    print_uids(list, w.labels);
+    say_number(rt, b"rounds ", w.rounds as u64);
+    say_number(rt, b" labels ", w.labels as u64);
+    print_uids(rt, list, w.labels);
 }
 
-pub fn walk_all(bytes: &[u8], tags: &mut [u8]) {
+pub fn walk_all(rt: &HostRuntime, bytes: &[u8], tags: &mut [u8]) {
     let mut list = [0u8; 512];
     let w = walked(tags, family_of(bytes), &mut list);
-    print_list(w, &list);
+    print_list(rt, w, &list);
 }

@@ -70,23 +70,23 @@ fn behind(bytes: &[u8]) -> usize
 }
 
 // What a frame means as an answer to a command that was sent with n bytes of data.
-fn read(bytes: &[u8], n: usize, frame: &[u8]) {
-    print_reading(read_answer(command(bytes), uid(), n, frame));
+fn read(rt: &HostRuntime, bytes: &[u8], n: usize, frame: &[u8]) {
+    print_reading(rt, read_answer(command(bytes), uid(), n, frame));
 }
 
 // The answer to a command, if one came, read back.
-fn read_back(bytes: &[u8], answered: u8, answer: &[u8], len: usize) {
+fn read_back(rt: &HostRuntime, bytes: &[u8], answered: u8, answer: &[u8], len: usize) {
     if answered != 1 {
-        say(b" -> silence");
+        say(rt, b" -> silence");
         return;
     }
     if answer.len() < len {
         return;
     }
-    say(b" -> ");
-    print_bytes(&answer[0..len]);
-    say(b" = ");
-    read(bytes, bytes.len() - behind(bytes), &answer[0..len]);
+    say(rt, b" -> ");
+    print_bytes(rt, &answer[0..len]);
+    say(rt, b" = ");
+    read(rt, bytes, bytes.len() - behind(bytes), &answer[0..len]);
 }
 
 // The event of a command's kind.
@@ -98,11 +98,11 @@ fn event_of(bytes: &[u8]) -> u8 {
 }
 
 // A command's frame is played, and its answer read.
-fn send(bytes: &[u8], frame: &[u8], tags: &mut [u8], draws: &[u8]) {
+fn send(rt: &HostRuntime, bytes: &[u8], frame: &[u8], tags: &mut [u8], draws: &[u8]) {
     let mut answer = [0u8; LEAST];
     let n = draws_for(tags, draws.len());
     let report = play(event_of(bytes), frame, tags, &draws[0..n], &mut answer);
-    read_back(bytes, report.answered, &answer, report.length);
+    read_back(rt, bytes, report.answered, &answer, report.length);
 }
 
 // The request of a command, with the data behind it.
@@ -111,36 +111,36 @@ fn write(bytes: &[u8], out: &mut [u8]) -> Written {
     write_request(command(bytes), uid(), &bytes[at..], out)
 }
 
-pub fn request(bytes: &[u8], tags: &mut [u8], draws: &[u8]) {
+pub fn request(rt: &HostRuntime, bytes: &[u8], tags: &mut [u8], draws: &[u8]) {
     let mut out = [0xEEu8; 64];
     let w = write(bytes, &mut out);
     if w.number != 0 {
-        say_number(b"refused ", w.number as u64);
+        say_number(rt, b"refused ", w.number as u64);
         return;
     }
     let n = w.length;
     if 64 < n {
         return;
     }
-    print_bytes(&out[0..n]);
-    send(bytes, &out[0..n], tags, draws);
+    print_bytes(rt, &out[0..n]);
+    send(rt, bytes, &out[0..n], tags, draws);
 }
 
-pub fn narrow(bytes: &[u8]) {
+pub fn narrow(rt: &HostRuntime, bytes: &[u8]) {
     let mut out = [0xEEu8; 63];
     let w = write(bytes, &mut out);
-    print_number(w.number as u64);
+    print_number(rt, w.number as u64);
 }
 
 // An answer to a command that was sent with one byte of data.
-pub fn answer(bytes: &[u8]) {
+pub fn answer(rt: &HostRuntime, bytes: &[u8]) {
     let at = behind(bytes);
     let mut frame = [0u8; 512];
     let n = seal_into(&bytes[at..], &mut frame);
-    read(bytes, 1, &frame[0..n]);
+    read(rt, bytes, 1, &frame[0..n]);
 }
 
-pub fn frame(bytes: &[u8]) {
+pub fn frame(rt: &HostRuntime, bytes: &[u8]) {
     let at = behind(bytes);
-    read(bytes, 0, &bytes[at..]);
+    read(rt, bytes, 0, &bytes[at..]);
 }

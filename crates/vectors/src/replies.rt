@@ -7,17 +7,17 @@ use tell::meaning::part_of;
 use verbs::trouble::{Trouble, put_trouble};
 
 // Plays an event on a rack and prints its reply, a space in front.
-pub fn play_event(tags: &mut [u8], number: u8, frame: &[u8], draws: &[u8]) {
+pub fn play_event(rt: &HostRuntime, tags: &mut [u8], number: u8, frame: &[u8], draws: &[u8]) {
     let mut answer = [0u8; LEAST];
     let n = draws_for(tags, draws.len());
     let report = event(tags, number, frame, part_of(draws, 0, n), &mut answer);
     let mut text = [0u8; 32768];
     let m = put_reply(&mut text, 0, report, &answer);
-    say(part_of(&text, 0, m));
+    say(rt, part_of(&text, 0, m));
 }
 
-pub fn print_trouble(trouble: Trouble) {
+pub fn print_trouble(rt: &HostRuntime, trouble: Trouble) {
     let mut text = [0u8; 128];
     let n = put_trouble(&mut text, 0, trouble);
-    say(part_of(&text, 0, n));
+    say(rt, part_of(&text, 0, n));
 }

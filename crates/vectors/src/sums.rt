@@ -8,9 +8,9 @@ use frame::{check_sum, uid};
 use print::say::{print_bytes, say, say_byte};
 
 // A name and a sum, low byte first as it is sent.
-fn print_sum(name: &[u8], sum: u16) {
-    say_byte(name, (sum % 256) as u8);
-    say_byte(b" ", (sum / 256) as u8);
+fn print_sum(rt: &HostRuntime, name: &[u8], sum: u16) {
+    say_byte(rt, name, (sum % 256) as u8);
+    say_byte(rt, b" ", (sum / 256) as u8);
 }
 
 // The bytes with their check sum, at the front of out: how many there are, or 0 where they have no room.
@@ -29,26 +29,26 @@ pub fn seal_into(bytes: &[u8], out: &mut [u8]) -> usize
 }
 
 // The bytes with their check sum, and the byte behind them, which stays EE.
-fn print_sealed(bytes: &[u8]) {
+fn print_sealed(rt: &HostRuntime, bytes: &[u8]) {
     let mut out = [0xEEu8; 64];
     let n = seal_into(bytes, &mut out);
-    print_bytes(&out[0..n]);
+    print_bytes(rt, &out[0..n]);
     if n < 64 {
-        say_byte(b" ", out[n]);
+        say_byte(rt, b" ", out[n]);
     }
 }
 
 // The sum of ISO/IEC 13239 (start FFFF, inverted) in its place; that of Type A (start 6363, not inverted); the register after the bytes as a frame,
 // and whether they are a right one.
-pub fn sum(bytes: &[u8]) {
-    print_sealed(bytes);
-    print_sum(b", type A ", check_sum::sum_with(0x6363, false, bytes));
-    print_sum(b", register ", check_sum::run(65535, bytes));
+pub fn sum(rt: &HostRuntime, bytes: &[u8]) {
+    print_sealed(rt, bytes);
+    print_sum(rt, b", type A ", check_sum::sum_with(0x6363, false, bytes));
+    print_sum(rt, b", register ", check_sum::run(65535, bytes));
     if check_sum::is_right(bytes) {
-        say(b", right");
+        say(rt, b", right");
         return;
     }
-    say(b", wrong");
+    say(rt, b", wrong");
 }
 
 fn ends(bytes: &[u8], u: [u8; 8], mask: u64, m: u32) -> bool {
@@ -58,7 +58,7 @@ fn ends(bytes: &[u8], u: [u8; 8], mask: u64, m: u32) -> bool {
     uid::ends_in_slot(u, mask, m, byte_at(bytes, 17))
 }
 
-pub fn mask(bytes: &[u8]) {
+pub fn mask(rt: &HostRuntime, bytes: &[u8]) {
     if bytes.len() < 17 {
         return;
     }
@@ -66,8 +66,8 @@ pub fn mask(bytes: &[u8]) {
     let mask = number_at(bytes, 8, 8);
     let m = byte_at(bytes, 16) as u32;
     if ends(bytes, u, mask, m) {
-        say(b"yes");
+        say(rt, b"yes");
         return;
     }
-    say(b"no");
+    say(rt, b"no");
 }

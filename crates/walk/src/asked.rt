@@ -5,7 +5,7 @@ ghost use Rattle.walk.specs.AfiWord.{by_digits, afi_in};
 
 use text::hex::{Nibble, value};
 
-#[derive(Drop)]
+#[derive(Clone, Copy)]
 pub enum Asked {
     Byte(u8),
     Nothing,

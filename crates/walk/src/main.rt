@@ -1,4 +1,6 @@
 // walk [--afi HH] [RACK]: walks a rack, of standard input where no file is named, with this AFI or none. Prints the rounds, then the UIDs; or what refuses it.
+#![tactic(auto)]
+
 mod asked;
 
 ghost use Rattle.std.specs.Prelude.{◌≡◌, ◌*◌, ◌≤◌, length};
@@ -9,11 +11,12 @@ ghost use Rattle.walk.specs.WalkText.{uid_lines, walk_text, printed};
 use crate::asked::{Asked, afi_in};
 use frame::uid::uid_at;
 use inventory::walk::{Walked, walk};
-use libc::STDERR_FILENO;
+use print::fail::tell;
 use print::hex::put_uid;
 use print::put::{inside, put_number_line, put_text};
 use print::say::say;
 use request::label::Family;
+use text::args::{count, word};
 use text::file::{Loaded, load, load_input};
 use text::words::same_word;
 
@@ -60,55 +63,55 @@ fn print_to(text: &mut [u8], family: Family, tags: &mut [u8]) -> usize
 }
 
 // The rack that argument i names, or standard input where there is none, to the front of tags.
-fn load_rack(i: usize, tags: &mut [u8]) -> Loaded
+fn load_rack(rt: &HostRuntime, i: usize, tags: &mut [u8]) -> Loaded
     ensures { result.len ≤ length tags.new }
 {
-    if os::arg_count() <= i {
-        return load_input(tags);
+    if count(rt) <= i {
+        return load_input(rt, tags);
     }
-    load(i, b"RACK", tags)
+    load(rt, i, b"RACK", tags)
 }
 
 // Walks a rack with a family; argument i, the last, may name it.
-fn run(family: Family, i: usize) {
-    let words = os::arg_count();
+fn run(rt: &HostRuntime, family: Family, i: usize) {
+    let words = count(rt);
     if i < words {
         if 1 < words - i {
-            io::write_all(STDERR_FILENO, b"usage: walk [--afi HH] [RACK]\n");
+            tell(rt, b"usage: walk [--afi HH] [RACK]\n");
             return;
         }
     }
     let mut tags = [0u8; 65537];
-    let loaded = load_rack(i, &mut tags);
+    let loaded = load_rack(rt, i, &mut tags);
     if !loaded.fine {
         return;
     }
     let len = loaded.len;
     let mut text = [0u8; ROOM];
     let n = print_to(&mut text, family, &mut tags[0..len]);
-    say(&text[0..n]);
+    say(rt, &text[0..n]);
 }
 
 // Whether the first argument is --afi.
-fn has_afi() -> bool {
-    let mut word = [0u8; 6];
-    let n = os::arg(1, &mut word);
-    same_word(&word[0..n], b"--afi")
+fn has_afi(rt: &HostRuntime) -> bool {
+    let mut first = [0u8; 6];
+    let n = word(rt, 1, &mut first);
+    same_word(&first[0..n], b"--afi")
 }
 
 // The AFI comes behind --afi; a word that is too long for one is read as none.
-fn main() {
-    if !has_afi() {
-        run(Family::Any, 1);
+fn main(rt: HostRuntime) {
+    if !has_afi(&rt) {
+        run(&rt, Family::Any, 1);
         return;
     }
-    let mut word = [0u8; 3];
-    let n = os::arg(2, &mut word);
-    let asked = afi_in(&word[0..n]);
+    let mut named = [0u8; 3];
+    let n = word(&rt, 2, &mut named);
+    let asked = afi_in(&named[0..n]);
     match asked {
-        Asked::Byte(afi) => run(Family::Only(afi), 3),
+        Asked::Byte(afi) => run(&rt, Family::Only(afi), 3),
         Asked::Nothing => {
-            io::write_all(STDERR_FILENO, b"walk: --afi takes two hex digits\n");
+            tell(&rt, b"walk: --afi takes two hex digits\n");
         }
     }
 }
