@@ -1,12 +1,12 @@
 -- Tests and choices, by the cases of Bool: tests that are true together are equal, `and` and `or` by their sides, and a choice is one of its two sides.
 -- Assumes nothing.
+use Rattle.std.specs.Prelude.{if◌then◌else◌}
 use mathlib.Core.Path.{◌≡◌, refl, sym}
 use mathlib.Core.Logic.{◌⊎◌, inl, inr}
 use mathlib.Core.Bool.{Bool, true, false, not, ◌&&◌, ◌||◌, false≢true}
 use Prim.Native.Nat.{ℕ, ◌≤◌, ◌<◌}
 use lib.Dec.{eqb, ltb}
 use borrow.Author.Tests.{eqb-true, eqb-false, eq-eqb, ltb-true, ltb-false, not-false}
-use Rattle.frame.specs.Choose.{if◌then◌else◌}
 
 -- ---- tests
 

@@ -50,6 +50,10 @@ both_parts n lo hi k w h = (
   (λ p. mod-pow-add n k w ∙ ap₂ (λ (x y : ℕ). x * 2 ^ w + y) p.1 p.0),
 )
 
+-- a mask and its slot, as one number four bits longer
+slot_longer : (n mask bits slot : ℕ) → mask < 2 ^ bits → (n % 2 ^ (4 + bits) ≡ slot * 2 ^ bits + mask) ↔ ((n % 2 ^ bits ≡ mask) × (n / 2 ^ bits % 16 ≡ slot))
+slot_longer n mask bits slot h = both_parts n mask slot 4 bits h
+
 ends_parts : (n lo hi k w : ℕ) → lo < 2 ^ w → eqb (n % 2 ^ (k + w)) (hi * 2 ^ w + lo) ≡ (eqb (n % 2 ^ w) lo && eqb (n / 2 ^ w % 2 ^ k) hi)
 ends_parts n lo hi k w h =
     let e = both_parts n lo hi k w h in

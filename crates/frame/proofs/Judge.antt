@@ -1,5 +1,6 @@
 -- Verdicts. What a fine verdict tells, by the cases of its tests; and a loop that stops at the first offence, by induction on how many were judged.
 -- Assumes nothing.
+use Rattle.std.specs.Prelude.{if◌then◌else◌}
 use mathlib.Core.Path.{◌≡◌, refl, ap, sym, ◌∙◌}
 use mathlib.Core.Logic.{⊎_elim}
 use mathlib.Core.List.{List}
@@ -12,7 +13,6 @@ use lib.Dec.{eqb, ltb}
 use lib.ListN.{get_or}
 use borrow.Author.Tests.{eq-eqb, ne_eqb, eqb-true, eqb-false, lt-ltb, le-ltb, ltb-false}
 use Rattle.frame.specs.declared.verdict.Verdict.{Verdict}
-use Rattle.frame.specs.Choose.{if◌then◌else◌}
 use Rattle.frame.specs.Judge.{fine, bad, or_else, first_of, byte_verdict}
 
 -- ---- one test, and one verdict after another

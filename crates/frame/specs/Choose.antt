@@ -1,10 +1,5 @@
 -- A choice by a test, and a bit of a number. Assumes nothing.
-use Rattle.std.specs.Prelude.{Bool, true, false, ◌&&◌, List, [], ◌++◌, ℕ, zero, suc, ◌/◌, ◌%◌, ◌^◌, eqb}
-
-infixr 0 if◌then◌else◌
-abbrev pub if◌then◌else◌ : {A : Type 0} → Bool → A → A → A
-if◌then◌else◌ true a b = a
-if◌then◌else◌ false a b = b
+use Rattle.std.specs.Prelude.{Bool, true, ◌&&◌, List, [], ◌++◌, ℕ, zero, suc, ◌/◌, ◌%◌, ◌^◌, eqb}
 
 -- bit k of x; bits count from 0
 abbrev pub bit : ℕ → ℕ → ℕ

@@ -1,6 +1,5 @@
 -- A verdict on bytes: the number of the first offence and its place, in the order of document 02, P5. Assumes nothing.
-use Rattle.std.specs.Prelude.{List, ℕ, zero, suc, ◌+◌, eqb, ltb, get_or}
-use Rattle.frame.specs.Choose.{if◌then◌else◌}
+use Rattle.std.specs.Prelude.{List, ℕ, zero, suc, ◌+◌, eqb, ltb, get_or, if◌then◌else◌}
 use Rattle.frame.specs.declared.verdict.Verdict.{Verdict}
 
 -- number 0: no offence

@@ -1,6 +1,7 @@
 -- What a reader frames is what a label reads. A frame's bytes before its check sum are those that were framed; so flags and lengths compute,
 -- and each target's frame is read as the call of its parameters, and an Inventory's as its mask.
 -- Assumes nothing.
+use Rattle.std.specs.Prelude.{if◌then◌else◌}
 use mathlib.Core.Path.{◌≡◌, refl, sym, ap, ap₂, ◌∙◌}
 use mathlib.Core.Bool.{Bool, true, false}
 use mathlib.Core.List.{List, [], ◌∷◌, ◌++◌, append_assoc, append-nil}
@@ -11,7 +12,7 @@ use lib.Pow.{pow_mono, pow-add}
 use lib.ListN.{length, get_or, take, drop, length-append}
 use lib.Seq.{take_at, drop_at, get_or_at}
 use borrow.Author.Tests.{le-ltb, eq-eqb}
-use Rattle.frame.specs.Choose.{if◌then◌else◌, bit, set?}
+use Rattle.frame.specs.Choose.{bit, set?}
 use Rattle.frame.specs.Number.{num, bytes_of, part}
 use Rattle.frame.specs.CheckSum.{crc_of, framed_with, framed}
 use Rattle.frame.specs.Ending.{bytes_for, mask_at}

@@ -1,6 +1,7 @@
 -- What every decoded request keeps to: masks are short and have no spare bits, bytes to be written are bytes.
 -- A property of calls holds of `decode f` where it holds of each of its ends; so the law is one at the ends.
 -- Assumes nothing.
+use Rattle.std.specs.Prelude.{if◌then◌else◌}
 use mathlib.Core.Path.{◌≡◌}
 use mathlib.Core.Bool.{Bool, true, not, ◌&&◌, ◌||◌}
 use mathlib.Core.List.{List}
@@ -8,7 +9,7 @@ use Prim.Native.Nat.{ℕ, ◌+◌, ◌-◌, ◌^◌, ◌≤◌, ◌<◌}
 use lib.Dec.{eqb, ltb, lit<}
 use lib.ListN.{length, get_or}
 use borrow.Author.Tests.{ltb-false}
-use Rattle.frame.specs.Choose.{if◌then◌else◌, bit, set?}
+use Rattle.frame.specs.Choose.{bit, set?}
 use Rattle.frame.specs.Number.{Bytes}
 use Rattle.frame.specs.CheckSum.{right}
 use Rattle.frame.specs.Ending.{bytes_for, mask_at}

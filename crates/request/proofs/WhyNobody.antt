@@ -1,5 +1,6 @@
 -- The ways out of the functions that say why no tag acts on a frame; and that this is no second opinion: a frame has nothing wrong exactly where the
 -- decoding leaves something to act on. Assumes nothing.
+use Rattle.std.specs.Prelude.{if◌then◌else◌}
 use mathlib.Core.Path.{◌≡◌, refl, sym, ap, ◌∙◌}
 use mathlib.Core.Bool.{Bool, true, false, not, ◌&&◌, ◌||◌, false≢true}
 use mathlib.Core.List.{List}
@@ -8,7 +9,7 @@ use native.Mathlib.Omega.{arith}
 use lib.Dec.{eqb, ltb}
 use lib.ListN.{length, get_or}
 use borrow.Author.Tests.{lt-ltb, le-ltb, ltb-true, eq-eqb, ne_eqb}
-use Rattle.frame.specs.Choose.{if◌then◌else◌, bit, set?}
+use Rattle.frame.specs.Choose.{bit, set?}
 use Rattle.frame.specs.CheckSum.{right}
 use Rattle.frame.specs.Ending.{bytes_for}
 use Rattle.frame.proofs.Bools.{if_both, if_either}
@@ -17,14 +18,13 @@ use Rattle.request.specs.declared.label.Call.TheVariants.{Ignored, Off, On, EndO
 use Rattle.request.specs.declared.label.Family.{Family}
 use Rattle.request.specs.declared.label.Family.TheVariants.{Any, Only}
 use Rattle.request.specs.declared.label.Request.{Request}
-use Rattle.request.specs.declared.label.Target.TheVariants.{Everyone, Selected}
 use Rattle.request.specs.declared.chip.Order.{Order}
 use Rattle.request.specs.declared.chip.Order.TheVariants as o
 use Rattle.request.specs.declared.why.Why.{Why}
 use Rattle.request.specs.declared.why.Why.TheVariants as w
 use Rattle.request.specs.declared.why.WhyChip.{WhyChip}
 use Rattle.request.specs.declared.why.WhyChip.TheVariants as wc
-use Rattle.request.specs.Label.{flag, bare, nobody, most, masked, inventory, addressed, unaddressed, addressing, decode}
+use Rattle.request.specs.Label.{flag, nobody, most, masked, inventory, addressed, addressing, decode}
 use Rattle.request.specs.Chip as chips
 use Rattle.request.specs.Why.{is_nobody, is_ignored, why_masked, why_inventory, why_task, why_right, why_of, why_ignored}
 

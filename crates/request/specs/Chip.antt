@@ -1,6 +1,5 @@
 -- Document 01, "Chips": what a frame asks. Another length, code or check sum than these is ignored. Assumes nothing.
-use Rattle.std.specs.Prelude.{Bool, not, ◌&&◌, ◌||◌, List, ℕ, ◌/◌, ◌%◌, eqb, ltb, length, get_or}
-use Rattle.frame.specs.Choose.{if◌then◌else◌}
+use Rattle.std.specs.Prelude.{Bool, not, ◌&&◌, ◌||◌, List, ℕ, ◌/◌, ◌%◌, eqb, ltb, length, get_or, if◌then◌else◌}
 use Rattle.frame.specs.Number.{num, part}
 use Rattle.frame.specs.CheckSum.{right}
 use Rattle.request.specs.declared.chip.Order.{Order}

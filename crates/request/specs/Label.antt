@@ -1,6 +1,6 @@
 -- Document 01, "Labels" and "Events": what an event asks of labels, whatever the label. Assumes nothing.
-use Rattle.std.specs.Prelude.{Bool, true, false, not, ◌&&◌, ◌||◌, List, ℕ, ◌+◌, ◌-◌, eqb, ltb, length, get_or, replicate}
-use Rattle.frame.specs.Choose.{if◌then◌else◌, bit, set?}
+use Rattle.std.specs.Prelude.{Bool, true, false, not, ◌&&◌, ◌||◌, List, ℕ, ◌+◌, ◌-◌, eqb, ltb, length, get_or, replicate, if◌then◌else◌}
+use Rattle.frame.specs.Choose.{bit, set?}
 use Rattle.frame.specs.Number.{part}
 use Rattle.frame.specs.CheckSum.{right}
 use Rattle.frame.specs.Ending.{bytes_for, mask_at}

@@ -1,7 +1,6 @@
 -- Document 01, "Labels": "The fixed lengths stand in one small table, without UID"; what else goes with a code stands beside its length; 23 and 2C are
 -- document 02's, P2. Assumes nothing.
-use Rattle.std.specs.Prelude.{Bool, true, false, not, ◌||◌, List, [], ◌∷◌, ℕ, eqb}
-use Rattle.frame.specs.Choose.{if◌then◌else◌}
+use Rattle.std.specs.Prelude.{Bool, true, false, not, ◌||◌, List, [], ◌∷◌, ℕ, eqb, if◌then◌else◌}
 use Rattle.request.specs.declared.table.Task.{Task}
 use Rattle.request.specs.declared.table.Task.TheVariants as t
 use Rattle.request.specs.declared.table.Success.{Success}

@@ -1,6 +1,6 @@
 -- Why a frame is one that no tag acts on: the first thing about it, in the order of the decoding. Assumes nothing.
-use Rattle.std.specs.Prelude.{Bool, true, false, not, List, ℕ, ◌+◌, eqb, ltb, length, get_or}
-use Rattle.frame.specs.Choose.{if◌then◌else◌, bit, set?}
+use Rattle.std.specs.Prelude.{Bool, true, false, not, List, ℕ, ◌+◌, eqb, ltb, length, get_or, if◌then◌else◌}
+use Rattle.frame.specs.Choose.{bit, set?}
 use Rattle.frame.specs.CheckSum.{right}
 use Rattle.frame.specs.Ending.{bytes_for}
 use Rattle.request.specs.declared.label.Call.{Call}

@@ -5,7 +5,7 @@ ghost use Rattle.request.specs.Chip.{listed, short, pair, long, decode, heard};
 use frame::check_sum::is_right;
 use frame::number::word_at;
 
-#[derive(Drop)]
+#[derive(Clone, Copy)]
 pub enum Order {
     // Nothing, or a frame of another length, code or check sum.
     Ignored,

@@ -8,7 +8,7 @@ use frame::check_sum::is_right;
 use frame::number::byte_at;
 use frame::uid::{mask_at, uid_at};
 
-#[derive(Drop)]
+#[derive(Clone, Copy)]
 pub enum Target {
     Everyone,
     Selected,
@@ -17,20 +17,20 @@ pub enum Target {
 }
 
 // The family asked for: any, or an AFI byte.
-#[derive(Drop)]
+#[derive(Clone, Copy)]
 pub enum Family {
     Any,
     Only(u8),
 }
 
 // The parameters of a task, a byte each; 0 where it has none.
-#[derive(Drop)]
+#[derive(Clone, Copy)]
 pub struct Params {
     pub first: u8,
     pub second: u8,
 }
 
-#[derive(Drop)]
+#[derive(Clone, Copy)]
 pub enum Call {
     // An event that labels ignore.
     Ignored,
@@ -47,7 +47,7 @@ pub enum Call {
     Do(Target, Task, Params, bool),
 }
 
-#[derive(Drop)]
+#[derive(Clone, Copy)]
 pub struct Request {
     pub uid: [u8; 8],
     pub call: Call,

@@ -5,7 +5,7 @@ ghost use Rattle.request.specs.Signal.{signal_of};
 use crate::chip::Order;
 use crate::label::Request;
 
-#[derive(Drop)]
+#[derive(Clone, Copy)]
 pub struct Signal {
     pub label: Request,
     pub chip: Order,

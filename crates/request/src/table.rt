@@ -3,7 +3,7 @@ ghost use Rattle.std.specs.Prelude.{◌≡◌};
 ghost use Rattle.request.specs.Table.{row_of, table, lookup, has_answer, option_fits};
 
 // What a label is asked beside an Inventory.
-#[derive(Drop)]
+#[derive(Clone, Copy)]
 pub enum Task {
     Quiet,
     Read,
@@ -21,7 +21,7 @@ pub enum Task {
 }
 
 // What a task's success says.
-#[derive(Drop)]
+#[derive(Clone, Copy)]
 pub enum Success {
     // There is no answer.
     Never,
@@ -34,7 +34,7 @@ pub enum Success {
 
 // A task's code, its frame's length without a UID, whether a block of the label's length follows, whether Option is allowed,
 // whether it takes one UID only, and what a success says.
-#[derive(Drop)]
+#[derive(Clone, Copy)]
 pub struct Row {
     pub task: Task,
     pub code: u8,
@@ -45,7 +45,7 @@ pub struct Row {
     pub success: Success,
 }
 
-#[derive(Drop)]
+#[derive(Clone, Copy)]
 pub enum Found {
     Known(Row),
     Missing,

@@ -7,7 +7,7 @@ use crate::label::{Call, most_bits};
 use frame::check_sum::is_right;
 
 // The first thing about a label frame that leaves it without effect.
-#[derive(Drop)]
+#[derive(Clone, Copy)]
 pub enum Why {
     // Nothing: some label may act on it.
     Acts,
@@ -27,7 +27,7 @@ pub enum Why {
 }
 
 // The first thing about a chip frame that leaves it without effect.
-#[derive(Drop)]
+#[derive(Clone, Copy)]
 pub enum WhyChip {
     // Nothing: it is a command.
     Heard,

@@ -1,0 +1,21 @@
+use mathlib.Core.Path.{refl}
+use native.Mathlib.Nat.{add-zero, sub-zero}
+use native.Mathlib.Omega.{arith}
+use lib.ListN.{length-set}
+use borrow.Author.Rules.{rules}
+use Rattle.frame.proofs.Puts.{one, none, bytes_next, bytes_none}
+use Rattle.frame.proofs.put.put_number.Goals as goal
+
+pub loop-i-init : goal.loop-i-init
+loop-i-init c = (search rules, refl, rw (add-zero, sub-zero))
+
+pub bounds-out-at : goal.bounds-out-at
+bounds-out-at c = omega arith
+
+pub loop-i-preserved : goal.loop-i-preserved
+loop-i-preserved c =
+    let v = c.loop-i.invariant in
+    (omega arith, simp length-set v.1, one _ _ _ _ _ _ _ (bytes_next _ _ _ c.loop-i-test.true) (omega arith) v.2)
+
+pub returns : goal.returns
+returns c = (refl, none _ _ _ _ (bytes_none _ _ _ c.loop-i-test.false) c.loop-i.invariant.2)

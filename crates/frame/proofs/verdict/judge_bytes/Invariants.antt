@@ -1,0 +1,12 @@
+-- Nothing below i has offended: `byte_fine` keeps it so, and `byte_bad` is the first that does.
+-- Assumes nothing.
+use mathlib.Core.Path.{◌≡◌}
+use Prim.Native.Nat.{◌≤◌, ◌-◌}
+use Rattle.frame.specs.Judge.{first_of, fine, byte_verdict}
+use Rattle.frame.proofs.verdict.judge_bytes.Given as goal
+
+abbrev pub invariant-loop-i : goal.invariant-loop-i
+invariant-loop-i l = (l.i ≤ l.count) × (first_of l.i (byte_verdict l.body l.at l.most) ≡ fine)
+
+abbrev pub decreases-loop-i : goal.decreases-loop-i
+decreases-loop-i l = l.count - l.i
