@@ -1,6 +1,5 @@
 -- Document 01, "Chips" and "Events": what a chip does with an order, and what it answers. d is the draw. Assumes nothing.
-use Rattle.std.specs.Prelude.{not, ◌||◌, ℕ, ◌+◌, ◌*◌, ◌/◌, ◌%◌, eqb}
-use Rattle.frame.specs.Choose.{if◌then◌else◌}
+use Rattle.std.specs.Prelude.{not, ◌||◌, ℕ, ◌+◌, ◌*◌, ◌/◌, ◌%◌, eqb, if◌then◌else◌}
 use Rattle.request.specs.declared.chip.Order.{Order}
 use Rattle.request.specs.declared.chip.Order.TheVariants as o
 use Rattle.chip.specs.declared.step.Chip.{Chip}

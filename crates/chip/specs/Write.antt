@@ -1,7 +1,7 @@
 -- Document 01, "Chips": what a written block becomes. o is the old block, w the written one, s block 255. Assumes nothing.
-use Rattle.std.specs.Prelude.{Bool, not, ◌&&◌, ℕ, ◌+◌, ◌*◌, ◌/◌, ◌%◌, ◌^◌, eqb, ltb}
+use Rattle.std.specs.Prelude.{Bool, not, ◌&&◌, ℕ, ◌+◌, ◌*◌, ◌/◌, ◌%◌, ◌^◌, eqb, ltb, if◌then◌else◌}
 use Rattle.std.specs.Int.Bits.{bit_and}
-use Rattle.frame.specs.Choose.{if◌then◌else◌, bit}
+use Rattle.frame.specs.Choose.{bit}
 
 -- o AND w
 abbrev pub only_down : ℕ → ℕ → ℕ

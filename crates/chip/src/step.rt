@@ -6,7 +6,7 @@ ghost use Rattle.chip.specs.Write.{count_down, lock_down, locked, reloads, writt
 use request::chip::Order;
 
 // The part of a chip that steps: byte 64 is own.
-#[derive(Drop)]
+#[derive(Clone, Copy)]
 pub struct Chip {
     pub own: u8,
     pub state: u8,
@@ -15,7 +15,7 @@ pub struct Chip {
     pub fixed: u8,
 }
 
-#[derive(Drop)]
+#[derive(Clone, Copy)]
 pub enum Answer {
     Silent,
     Id(u8),
@@ -24,13 +24,13 @@ pub enum Answer {
 }
 
 // What is written beside the chip's state: block a becomes v.
-#[derive(Drop)]
+#[derive(Clone, Copy)]
 pub enum Work {
     Nothing,
     Put(u8, u32),
 }
 
-#[derive(Drop)]
+#[derive(Clone, Copy)]
 pub struct Stepped {
     pub next: Chip,
     pub answer: Answer,

@@ -39,3 +39,19 @@ unnamed o.Reset b k = refl
 unnamed (o.Read n) b k = refl
 unnamed o.Uid b k = refl
 unnamed (o.Write n v) b k = absurd (miss others 11 tt k)
+
+-- the same, as an arm knows it
+pub unnamed_not : (x : Order) (b : List ℕ) → ((n v : ℕ) → x ≡ o.Write n v → ⊥) → 0 ≡ named x b
+unfolding named
+unnamed_not o.Ignored b k = refl
+unnamed_not o.Off b k = refl
+unnamed_not o.On b k = refl
+unnamed_not o.Initiate b k = refl
+unnamed_not o.Pcall b k = refl
+unnamed_not (o.Marker n) b k = refl
+unnamed_not (o.Select id) b k = refl
+unnamed_not o.Completion b k = refl
+unnamed_not o.Reset b k = refl
+unnamed_not (o.Read n) b k = refl
+unnamed_not o.Uid b k = refl
+unnamed_not (o.Write n v) b k = absurd (k n v refl)

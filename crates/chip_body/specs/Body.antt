@@ -1,7 +1,6 @@
 -- Document 01, "Rack file": the chip body of 80 bytes, its rules and the step on it. Assumes nothing.
-use Rattle.std.specs.Prelude.{not, ◌&&◌, ◌||◌, List, [], ◌∷◌, ℕ, ◌*◌, eqb, ltb, get_or}
+use Rattle.std.specs.Prelude.{not, ◌&&◌, ◌||◌, List, [], ◌∷◌, ℕ, ◌*◌, eqb, ltb, get_or, if◌then◌else◌}
 use Rattle.std.proofs.lemmas.List.Edits.{sets}
-use Rattle.frame.specs.Choose.{if◌then◌else◌}
 use Rattle.frame.specs.Number.{num, bytes_of, part}
 use Rattle.frame.specs.Judge.{fine, bad}
 use Rattle.frame.specs.declared.verdict.Verdict.{Verdict}

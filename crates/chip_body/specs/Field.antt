@@ -1,6 +1,5 @@
 -- What a place of a chip's body holds, of what the rules judge. Assumes nothing.
-use Rattle.std.specs.Prelude.{ℕ, eqb}
-use Rattle.frame.specs.Choose.{if◌then◌else◌}
+use Rattle.std.specs.Prelude.{ℕ, eqb, if◌then◌else◌}
 use Rattle.chip_body.specs.declared.field.Field.{Field}
 use Rattle.chip_body.specs.declared.field.Field.TheVariants as f
 

@@ -1,4 +1,6 @@
 // A chip's body in the rack file: its bytes and rules, the step on it, and the bytes of its answers.
+#![tactic(auto)]
+
 pub mod answer;
 pub mod body;
 pub mod field;

@@ -1,11 +1,11 @@
 -- What holds of every variant but one, where a `match` has one arm for all the others. Assumes nothing.
+use Rattle.std.specs.Prelude.{if◌then◌else◌}
 use mathlib.Core.Path.{◌≡◌, refl}
 use mathlib.Core.List.{List, [], ◌∷◌}
 use Prim.Native.Nat.{ℕ, zero, suc}
 use lib.Dec.{eqb}
 use types.Run.{OneOf, miss}
 use denote.Enum.Declared.{tag_of}
-use Rattle.frame.specs.Choose.{if◌then◌else◌}
 use Rattle.request.specs.Table.{row_of}
 use Rattle.request.specs.declared.table.Task.{Task}
 use Rattle.request.specs.declared.table.Task.TheVariants as t
@@ -37,3 +37,19 @@ passed_by t.WriteDsfid l o = refl
 passed_by t.LockDsfid l o = refl
 passed_by t.Info l o = refl
 passed_by t.Status l o = refl
+
+pub passed_not : (x : Task) (l : Label) → (x ≡ t.Select → ⊥) → silent l ≡ passed x l
+unfolding passed row_of
+passed_not t.Quiet l n = refl
+passed_not t.Read l n = refl
+passed_not t.Write l n = refl
+passed_not t.Lock l n = refl
+passed_not t.ReadMany l n = refl
+passed_not t.Select l n = absurd (n refl)
+passed_not t.Ready l n = refl
+passed_not t.WriteAfi l n = refl
+passed_not t.LockAfi l n = refl
+passed_not t.WriteDsfid l n = refl
+passed_not t.LockDsfid l n = refl
+passed_not t.Info l n = refl
+passed_not t.Status l n = refl

@@ -1,6 +1,6 @@
 -- Document 01, "Labels" and "Events", and document 02, P1 and P2: what a label does with a request, and what it answers. Assumes nothing.
-use Rattle.std.specs.Prelude.{Bool, true, false, not, ◌&&◌, ◌||◌, List, ℕ, ◌+◌, ◌/◌, ◌%◌, eqb, ltb}
-use Rattle.frame.specs.Choose.{if◌then◌else◌, bit, set?}
+use Rattle.std.specs.Prelude.{Bool, true, false, not, ◌&&◌, ◌||◌, List, ℕ, ◌+◌, ◌/◌, ◌%◌, eqb, ltb, if◌then◌else◌}
+use Rattle.frame.specs.Choose.{bit, set?}
 use Rattle.frame.specs.Number.{num}
 use Rattle.frame.specs.Ending.{ends_in, ends_in_slot}
 use Rattle.request.specs.declared.label.Target.{Target}

@@ -11,7 +11,7 @@ use request::label::{Call, Family, Request, Target};
 use request::table::Task;
 
 // The part of a label that steps: its body's first 25 bytes.
-#[derive(Drop)]
+#[derive(Clone, Copy)]
 pub struct Label {
     pub uid: [u8; 8],
     pub dsfid: u8,
@@ -26,7 +26,7 @@ pub struct Label {
     pub mask: u64,
 }
 
-#[derive(Drop)]
+#[derive(Clone, Copy)]
 pub enum Answer {
     Silent,
     Error(u8),
@@ -42,14 +42,14 @@ pub enum Answer {
 }
 
 // What is written beside the label's first bytes: a block becomes the bytes sent, or it is locked.
-#[derive(Drop)]
+#[derive(Clone, Copy)]
 pub enum Work {
     Nothing,
     Write(u8),
     Lock(u8),
 }
 
-#[derive(Drop)]
+#[derive(Clone, Copy)]
 pub struct Stepped {
     pub next: Label,
     pub answer: Answer,

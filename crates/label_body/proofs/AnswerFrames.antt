@@ -115,7 +115,7 @@ calm_told (a.Blocks n more) b h = h
 calm_told (a.LocksAndBlocks n more) b h = h
 calm_told (a.Locks n more) b h = h
 
-way_told : {call : Call} {count lock : ℕ} {s : Stepped} (b : List ℕ) → Way call count lock (load_of b) s → AnswerFits s.answer b
+way_told : {call : Call} {count lock : ℕ} (b : List ℕ) {s : Stepped} → Way call count lock (load_of b) s → AnswerFits s.answer b
 unfolding AnswerFits
 way_told b stays = tt
 way_told b offs = tt

@@ -1,12 +1,15 @@
 -- What holds of every call but a task's, where a `match` has one arm for all the others. Assumes nothing.
 use mathlib.Core.Path.{◌≡◌, refl}
-use mathlib.Core.Bool.{false}
+use mathlib.Core.Bool.{Bool, false}
 use mathlib.Core.List.{List}
 use Prim.Native.Nat.{ℕ}
 use types.Run.{OneOf, miss}
 use denote.Enum.Declared.{tag_of}
+use Rattle.request.specs.declared.table.Task.{Task}
 use Rattle.request.specs.declared.table.Task.TheVariants as t
+use Rattle.request.specs.declared.label.Target.{Target}
 use Rattle.request.specs.declared.label.Target.TheVariants.{One}
+use Rattle.request.specs.declared.label.Params.{Params}
 use Rattle.request.specs.declared.label.Call.{Call}
 use Rattle.request.specs.declared.label.Call.TheVariants.{Ignored, Off, On, EndOfFrame, Nobody, Inventory, Fault, Do}
 use Rattle.request.specs.Label.{both}
@@ -28,3 +31,14 @@ named_none Nobody b o = refl
 named_none (Inventory family sixteen bits mask) b o = refl
 named_none (Fault to code) b o = refl
 named_none (Do to task p option) b o = absurd (miss undone (tag_of call-type (Do to task p option)) tt o)
+
+pub named_not : (x : Call) (b : List ℕ) → ((to : Target) (task : Task) (p : Params) (option : Bool) → x ≡ Do to task p option → ⊥) → 0 ≡ named x b
+unfolding named
+named_not Ignored b n = refl
+named_not Off b n = refl
+named_not On b n = refl
+named_not EndOfFrame b n = refl
+named_not Nobody b n = refl
+named_not (Inventory family sixteen bits mask) b n = refl
+named_not (Fault to code) b n = refl
+named_not (Do to task p option) b n = absurd (n to task p option refl)

@@ -1,6 +1,7 @@
 -- What the rules of a label's body say, as facts, and back. A mask has no bit above its length where none of its bytes has: by induction on the bytes,
 -- eight bits fewer for each. The place of an offence lies in the body: by the cases of the rules.
 -- Assumes nothing.
+use Rattle.std.specs.Prelude.{if◌then◌else◌}
 use mathlib.Core.Path.{◌≡◌, refl, ap, ◌∙◌}
 use mathlib.Core.Logic.{⊎_elim}
 use mathlib.Core.Bool.{Bool, true, false, not, ◌&&◌}
@@ -14,7 +15,6 @@ use lib.ListN.{length, get_or, drop, length-take}
 use lib.Seq.{get_or-take, get_or-drop}
 use borrow.Author.Tests.{eqb-true, eqb-false, eq-eqb, ne_eqb, ltb-false, le-ltb, leb-false, lt-leb, not-false}
 use Rattle.frame.specs.declared.verdict.Verdict.{Verdict}
-use Rattle.frame.specs.Choose.{if◌then◌else◌}
 use Rattle.frame.specs.Number.{num, part, Bytes}
 use Rattle.frame.specs.Judge.{fine, bad, first_of, byte_verdict}
 use Rattle.frame.proofs.Bools.{below_or_not, if_either, if_both}

@@ -1,5 +1,6 @@
 -- What the hospital's floor asked of a label, over any request: the UID and the numbers stay, what is locked stays, an error changes nothing; and over frames
 -- and events: who is quiet or off keeps still, another's Select, a mask of 60 bits. By the ways of the step. Assumes nothing.
+use Rattle.std.specs.Prelude.{if◌then◌else◌}
 use mathlib.Core.Path.{◌≡◌, refl, sym, ap, ◌∙◌}
 use mathlib.Core.Logic.{inl, inr, ⊎_elim}
 use mathlib.Core.Bool.{Bool, true, false, ◌&&◌, false≢true}
@@ -11,7 +12,7 @@ use native.Mathlib.Omega.{arith}
 use lib.Dec.{eqb}
 use lib.ListN.{length, get_or, length-take}
 use borrow.Author.Tests.{eqb-true, ne_eqb}
-use Rattle.frame.specs.Choose.{if◌then◌else◌, bit, set?}
+use Rattle.frame.specs.Choose.{bit, set?}
 use Rattle.frame.specs.Number.{num, bytes_of, part, Bytes}
 use Rattle.frame.specs.CheckSum.{framed}
 use Rattle.frame.specs.Ending.{ends_in, ends_in_slot, longer, bytes_for}
@@ -76,7 +77,7 @@ Spares n count w.Nothing b = Unit
 Spares n count (w.Write m) b = (m ≡ n → ⊥) × (count ≡ size_of b)
 Spares n count (w.Lock m) b = m ≤ get_or b 11 0
 
-way_spares : {call : Call} {count : ℕ} {s : Stepped} (n : ℕ) (b : List ℕ) → lock_on n b ≡ 1
+way_spares : {call : Call} {count : ℕ} (n : ℕ) (b : List ℕ) {s : Stepped} → lock_on n b ≡ 1
     → Way call count (named call b) (load_of b) s → Spares n count s.work b
 unfolding Spares load_of
 way_spares n b e stays = tt

@@ -124,18 +124,18 @@ unfoldable pub lock_run : ℕ → (ℕ → ℕ) → List ℕ
 lock_run last lock = gather (suc last) (λ i. lock i ∷ [])
 
 -- how many bytes they are
-unfoldable pub run_room : ℕ → ℕ
-run_room last = suc last
+unfoldable pub run_size : ℕ → ℕ
+run_size last = suc last
 
 run_long : (n : ℕ) (lock : ℕ → ℕ) → length (gather n (λ i. lock i ∷ [])) ≡ n
 run_long n lock = gather_length 1 n (λ i. lock i ∷ []) (λ i l. refl) ∙ omega arith
 
-pub run_length : (last : ℕ) (lock : ℕ → ℕ) → length (lock_run last lock) ≡ run_room last
-unfolding lock_run run_room
+pub run_length : (last : ℕ) (lock : ℕ → ℕ) → length (lock_run last lock) ≡ run_size last
+unfolding lock_run run_size
 run_length last lock = run_long (suc last) lock
 
-pub run_room : (last : ℕ) (b : List ℕ) → get_or b 11 0 ≡ last → lock_room b ≡ run_room last
-unfolding lock_room run_room
+pub run_room : (last : ℕ) (b : List ℕ) → get_or b 11 0 ≡ last → lock_room b ≡ run_size last
+unfolding lock_room run_size
 run_room last b e = omega (arith, e)
 
 run_at : (n j : ℕ) (lock : ℕ → ℕ) (q : List ℕ) → j < n → get_or (gather n (λ i. lock i ∷ []) ++ q) j 0 ≡ lock j

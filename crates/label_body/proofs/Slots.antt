@@ -1,5 +1,6 @@
 -- A label through the slots of a sixteen-slot Inventory: the step on its body is `seek`, ten bytes anew, so slot s is `during .. s`.
 -- Well-formedness is needed where a label in state 0 is left alone: it has no slot already. Assumes nothing.
+use Rattle.std.specs.Prelude.{if◌then◌else◌}
 use mathlib.Core.Path.{◌≡◌, refl, sym, ap, ap₂, ◌∙◌}
 use mathlib.Core.Logic.{inl, ⊎_elim}
 use mathlib.Core.Bool.{Bool, true, false, ◌&&◌, ◌||◌, false≢true}
@@ -11,7 +12,6 @@ use lib.Dec.{eqb}
 use lib.ListN.{length, get_or}
 use lib.Seq.{length-sets}
 use borrow.Author.Tests.{eqb-true, eqb-false, ne_eqb, lt-ltb, le-ltb}
-use Rattle.frame.specs.Choose.{if◌then◌else◌}
 use Rattle.frame.specs.Number.{num, bytes_of, part, Bytes}
 use Rattle.frame.specs.CheckSum.{framed}
 use Rattle.frame.specs.Ending.{ends_in_slot}

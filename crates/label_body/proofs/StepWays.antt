@@ -1,12 +1,13 @@
 -- The ways a label's step goes, one for each end of the definition's tests, with what holds there. A law over every request is by the ways.
 -- Assumes nothing.
+use Rattle.std.specs.Prelude.{if◌then◌else◌}
 use mathlib.Core.Path.{◌≡◌, refl}
 use mathlib.Core.Bool.{Bool, true, false, not, ◌&&◌}
 use mathlib.Core.List.{List}
 use Prim.Native.Nat.{ℕ, ◌+◌, ◌^◌, ◌≤◌, ◌<◌}
 use lib.Dec.{eqb, ltb}
 use borrow.Author.Tests.{eqb-true, eqb-false, ltb-true, ltb-false, not-false}
-use Rattle.frame.specs.Choose.{if◌then◌else◌, bit, set?}
+use Rattle.frame.specs.Choose.{bit, set?}
 use Rattle.frame.specs.Ending.{ends_in, ends_in_slot}
 use Rattle.frame.proofs.Bools.{and_both, if_either}
 use Rattle.request.specs.declared.label.Target.{Target}

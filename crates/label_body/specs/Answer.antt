@@ -1,6 +1,6 @@
 -- Document 01, "Labels", and document 02, P2: the frame of an answer. Assumes nothing.
-use Rattle.std.specs.Prelude.{Bool, true, false, List, [], ◌∷◌, ◌++◌, ℕ, ◌+◌, get_or}
-use Rattle.frame.specs.Choose.{if◌then◌else◌, gather}
+use Rattle.std.specs.Prelude.{Bool, true, false, List, [], ◌∷◌, ◌++◌, ℕ, ◌+◌, get_or, if◌then◌else◌}
+use Rattle.frame.specs.Choose.{gather}
 use Rattle.frame.specs.Number.{part}
 use Rattle.frame.specs.CheckSum.{framed}
 use Rattle.label.specs.declared.step.Answer.{Answer}

@@ -1,7 +1,6 @@
 -- Document 01, "Rack file": the label body, 32 bytes, the locks, the blocks; its rules and the step on it. Assumes nothing.
-use Rattle.std.specs.Prelude.{◌≡◌, Bool, not, ◌&&◌, List, [], ◌∷◌, ℕ, ◌+◌, ◌-◌, ◌*◌, ◌^◌, eqb, ltb, leb, length, get_or}
+use Rattle.std.specs.Prelude.{◌≡◌, Bool, not, ◌&&◌, List, [], ◌∷◌, ℕ, ◌+◌, ◌-◌, ◌*◌, ◌^◌, eqb, ltb, leb, length, get_or, if◌then◌else◌}
 use Rattle.std.proofs.lemmas.List.Edits.{sets}
-use Rattle.frame.specs.Choose.{if◌then◌else◌}
 use Rattle.frame.specs.Number.{num, bytes_of, part}
 use Rattle.frame.specs.Judge.{fine, bad, or_else, first_of, byte_verdict}
 use Rattle.frame.specs.declared.verdict.Verdict.{Verdict}

@@ -1,6 +1,5 @@
 -- What a place of a label's body holds, of what the rules judge. Assumes nothing.
-use Rattle.std.specs.Prelude.{ℕ, ◌-◌, eqb, ltb}
-use Rattle.frame.specs.Choose.{if◌then◌else◌}
+use Rattle.std.specs.Prelude.{ℕ, ◌-◌, eqb, ltb, if◌then◌else◌}
 use Rattle.label_body.specs.declared.field.Field.{Field}
 use Rattle.label_body.specs.declared.field.Field.TheVariants as f
 

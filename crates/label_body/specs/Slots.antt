@@ -1,7 +1,6 @@
 -- Document 01, "Labels": a label through the slots of a sixteen-slot Inventory, as a walk sees it. Assumes nothing.
-use Rattle.std.specs.Prelude.{Bool, List, ◌∷◌, ℕ}
+use Rattle.std.specs.Prelude.{Bool, List, ◌∷◌, ℕ, if◌then◌else◌}
 use Rattle.std.proofs.lemmas.List.Edits.{sets}
-use Rattle.frame.specs.Choose.{if◌then◌else◌}
 use Rattle.frame.specs.Number.{num, bytes_of, part}
 use Rattle.request.specs.declared.label.Family.{Family}
 use Rattle.label.specs.Step.{heeds}

@@ -2,7 +2,7 @@
 ghost use Rattle.std.specs.Prelude.{◌≡◌};
 ghost use Rattle.label_body.specs.Field.{later_field, field_at};
 
-#[derive(Drop)]
+#[derive(Clone, Copy)]
 pub enum Field {
     // No rule.
     Other,

@@ -1,0 +1,41 @@
+-- A ladder of tests on the address, in the order of the definition.
+-- Assumes nothing.
+use Rattle.chip.specs.Write.{written}
+use borrow.Author.Rules.{rules}
+use Rattle.frame.proofs.Tests.{tests}
+use Rattle.chip.proofs.step.write_rule.Goals as goal
+
+pub returns-then-reload-eq1 : goal.returns-then-reload-eq1
+unfolding written
+returns-then-reload-eq1 c =
+    search tests
+
+pub returns-then-a-lt5 : goal.returns-then-a-lt5
+unfolding written
+returns-then-a-lt5 c =
+    search tests
+
+pub count_down-requires : goal.count_down-requires
+unfolding written
+count_down-requires c =
+    search rules
+
+pub returns-then-a-lt7 : goal.returns-then-a-lt7
+unfolding written
+returns-then-a-lt7 c =
+    search tests
+
+pub returns-then-a-lt16 : goal.returns-then-a-lt16
+unfolding written
+returns-then-a-lt16 c =
+    search tests
+
+pub lock_down-requires : goal.lock_down-requires
+unfolding written
+lock_down-requires c =
+    search rules
+
+pub returns : goal.returns
+unfolding written
+returns c =
+    search tests

@@ -1,0 +1,35 @@
+-- What is stored and written is what the step gives.
+-- Assumes nothing.
+use mathlib.Core.Path.{◌∙◌, ap}
+use Rattle.chip.specs.declared.step.Stepped.{Stepped}
+use Rattle.chip_body.specs.Body.{said_chip, next_chip, worked, store_of}
+use borrow.Author.Rules.{rules}
+use Rattle.chip_body.proofs.body.step.Goals as goal
+
+pub act_on-stepped-requires : goal.act_on-stepped-requires
+unfolding said_chip next_chip
+act_on-stepped-requires c =
+    search rules
+
+pub store-requires : goal.store-requires
+unfolding said_chip next_chip
+store-requires c =
+    search rules
+
+pub do_work-requires : goal.do_work-requires
+unfolding said_chip next_chip
+do_work-requires c =
+    search rules
+
+pub shape_of-b : goal.shape_of-b
+unfolding said_chip next_chip
+shape_of-b c =
+    search rules
+
+pub returns : goal.returns
+unfolding said_chip next_chip
+returns c =
+    let a = c.args in (
+      ap (λ (x : Stepped). x.answer) c.act_on-stepped.ensures,
+      c.do_work.ensures ∙ rw c.store.ensures (ap (λ (x : Stepped). worked x.work (store_of a.b.now x.next)) c.act_on-stepped.ensures),
+    )

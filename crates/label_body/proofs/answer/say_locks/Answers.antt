@@ -1,0 +1,92 @@
+use mathlib.Core.Path.{◌≡◌, ap, ◌∙◌}
+use mathlib.Core.List.{List, [], ◌∷◌}
+use Prim.Native.Nat.{ℕ, ◌+◌, ◌≤◌, ◌<◌}
+use mir.Val.{Fits}
+use mir.Syntax.{w8}
+use native.Mathlib.Omega.{arith}
+use lib.ListN.{length, get_or, length-set}
+use Rattle.frame.specs.Choose.{gather}
+use Rattle.frame.specs.CheckSum.{framed}
+use Rattle.label_body.specs.Locks.{lock_on}
+use Rattle.label_body.specs.Answer.{locks_bytes, answer_frame}
+use Rattle.label_body.proofs.AnswerLaid.{laying_none, laying_same, laying_room, laying_one, laying_done, laying_least, frame_some}
+use Rattle.label_body.proofs.answer.say_locks.Goals as goal
+use Rattle.label_body.proofs.answer.say_locks.Goals.{Start, In-loop-i}
+
+abbrev f : Start → ℕ → List ℕ
+f s j = lock_on (s.args.n + j) s.args.b.now ∷ []
+
+room : (s : Start) → length (framed (0 ∷ gather (s.args.more + 1) (f s))) ≤ length s.args.out.now
+unfolding answer_frame locks_bytes
+room s = s.requires.b_in_bounds
+
+there : (c : In-loop-i) → c.args.n + c.loop-i.i ≤ get_or c.args.b.now 11 0
+there c =
+    omega (arith, c.requires.sized.1, c.loop-i-test.true)
+
+byte_fits : (v : ℕ) → v < 256 → Fits w8 v
+byte_fits v h = record { fits = h }
+
+pub bounds-out-i : goal.bounds-out-i
+bounds-out-i c =
+    let run = c.loop-i.invariant in
+    omega (arith, laying_room run (omega (arith, c.loop-i-test.true)) (room (goal.at.bounds-out-i c).Start), simp length-set at (laying_same run))
+
+pub loop-i-preserved : goal.loop-i-preserved
+loop-i-preserved c = laying_one c.loop-i.invariant (omega (arith, c.loop-i-test.true)) (ap (λ (k : ℕ). k ∷ []) c.lock_on.ensures) (omega arith)
+
+pub seal-requires : goal.seal-requires
+seal-requires c =
+    let run = c.loop-i.invariant in
+    omega (arith, laying_least run (room (goal.at.seal-requires c).Start), simp length-set at (laying_same run), run.upto, c.loop-i-test.false)
+
+pub returns : goal.returns
+unfolding answer_frame locks_bytes
+returns c =
+    let run = c.loop-i.invariant in
+    let z : c.loop-i.i ≡ c.args.more + 1 = omega (arith, run.upto, c.loop-i-test.false) in
+    laying_done c.args.out.now run (omega (arith, c.loop-i-test.false)) (room (goal.at.returns c).Start) (rw (← z) at c.seal.ensures)
+
+pub overflow_add-count : goal.overflow_add-count
+overflow_add-count c =
+    omega arith
+
+pub bounds-out-0 : goal.bounds-out-0
+bounds-out-0 c =
+    omega (arith, frame_some (f (goal.at.bounds-out-0 c).Start) _ (room (goal.at.bounds-out-0 c).Start))
+
+pub loop-i-init : goal.loop-i-init
+loop-i-init c =
+    laying_none _ _ _
+
+pub overflow_add-first : goal.overflow_add-first
+overflow_add-first c =
+    omega (arith, there (goal.at.overflow_add-first c).In-loop-i)
+
+pub overflow_cast-first-in-loop-i : goal.overflow_cast-first-in-loop-i
+overflow_cast-first-in-loop-i c =
+    byte_fits _ (omega (arith, there (goal.at.overflow_cast-first-in-loop-i c).In-loop-i, c.shared_slice_known-1.given 11))
+
+pub lock_on-requires : goal.lock_on-requires
+lock_on-requires c =
+    tt
+
+pub overflow_add-out : goal.overflow_add-out
+overflow_add-out c =
+    omega (arith, c.loop-i-test.true)
+
+pub overflow_add-i : goal.overflow_add-i
+overflow_add-i c =
+    omega (arith, c.loop-i-test.true)
+
+pub loop-i-smaller : goal.loop-i-smaller
+loop-i-smaller c =
+    omega (arith, c.loop-i-test.true)
+
+pub overflow_add-count-2 : goal.overflow_add-count-2
+overflow_add-count-2 c =
+    omega arith
+
+pub shape_of-out : goal.shape_of-out
+shape_of-out c =
+    c.seal.auto.out ∙ laying_same c.loop-i.invariant ∙ simp length-set
