@@ -1,5 +1,6 @@
 -- Field off, field on and the bare end of frame carry no frame: what is handed over as one changes nothing of the outcome, since bytes sent
 -- matter to a write alone. Assumes nothing.
+use Rattle.std.specs.Prelude.{if◌then◌else◌}
 use mathlib.Core.Path.{◌≡◌, refl, sym, ap, ap₂, ◌∙◌}
 use mathlib.Core.Logic.{◌⊎◌, inl, inr}
 use mathlib.Core.Bool.{Bool, true, false, false≢true}
@@ -7,7 +8,6 @@ use mathlib.Core.List.{List, [], ◌∷◌}
 use Prim.Native.Nat.{ℕ}
 use lib.Dec.{eqb}
 use lib.ListN.{length, get_or}
-use Rattle.frame.specs.Choose.{if◌then◌else◌}
 use Rattle.request.specs.Label as labels
 use Rattle.request.specs.Chip as chips
 use Rattle.request.specs.declared.label.Target.{Target}

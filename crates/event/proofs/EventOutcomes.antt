@@ -1,6 +1,7 @@
 -- The outcome of an event, by the refusal that applies first; where none applies, by how many answered. A frame that is alone was read in the
 -- next rack, from a body that still says it: the body that the answerer had before its step gives the same bytes. The outcome leaves nothing
 -- open (`only_one`). Assumes nothing.
+use Rattle.std.specs.Prelude.{if◌then◌else◌}
 use mathlib.Core.Path.{◌≡◌, refl, ap, sym, ◌∙◌}
 use mathlib.Core.Bool.{Bool, true, false, not, ◌&&◌}
 use mathlib.Core.List.{List, [], ◌∷◌}
@@ -10,7 +11,7 @@ use borrow.Author.Tests.{eq-eqb, ne_eqb, lt-ltb, le-ltb, le-leb, lt-leb, eqb-tru
 use lib.Dec.{eqb, ltb, leb}
 use lib.ListN.{length, get_or}
 use lib.Seq.{sets}
-use Rattle.frame.specs.Choose.{if◌then◌else◌, gather}
+use Rattle.frame.specs.Choose.{gather}
 use Rattle.frame.specs.Number.{part, Bytes}
 use Rattle.frame.proofs.Numbers.{bytes_part}
 use Rattle.frame.specs.declared.verdict.Verdict.{Verdict}

@@ -1,5 +1,6 @@
 -- What the floor asked for, of a whole rack, over any event: each law of one tag holds of each body, since the rack that a call leaves has,
 -- at every entry, either the old body (a refusal) or the step of the old one. Assumes nothing.
+use Rattle.std.specs.Prelude.{if◌then◌else◌}
 use mathlib.Core.Path.{◌≡◌, refl, sym, subst}
 use mathlib.Core.Bool.{Bool, true, false}
 use mathlib.Core.List.{List}
@@ -10,7 +11,7 @@ use native.Mathlib.Omega.{arith}
 use lib.Bits.{bit_and, and_self}
 use lib.Dec.{eqb}
 use lib.ListN.{length, get_or}
-use Rattle.frame.specs.Choose.{if◌then◌else◌, bit}
+use Rattle.frame.specs.Choose.{bit}
 use Rattle.frame.specs.Number.{num, part, Bytes}
 use Rattle.frame.proofs.Numbers.{bytes_part}
 use Rattle.label_body.specs.Locks.{lock_on}

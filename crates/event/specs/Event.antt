@@ -1,6 +1,6 @@
 -- Document 01, "Events" and "Numbers a call can come back with": what an event does to a rack, and what it reports. Assumes nothing.
-use Rattle.std.specs.Prelude.{◌≡◌, not, ◌&&◌, List, [], ◌∷◌, ◌++◌, ℕ, eqb, ltb, leb, length, get_or, drop}
-use Rattle.frame.specs.Choose.{if◌then◌else◌, gather}
+use Rattle.std.specs.Prelude.{◌≡◌, not, ◌&&◌, List, [], ◌∷◌, ◌++◌, ℕ, eqb, ltb, leb, length, get_or, drop, if◌then◌else◌}
+use Rattle.frame.specs.Choose.{gather}
 use Rattle.rack.specs.File.{count_of, kind_at, body_at, rebuilt, verdict_of}
 use Rattle.rack.specs.Tag.{Event, aired, next_body, answer_body}
 use Rattle.event.specs.declared.call.Report.{Report}

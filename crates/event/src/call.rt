@@ -18,7 +18,7 @@ pub const LEAST: usize = 8451;
 
 // What an event reports: the refusal's number or 0, how many tags answered, the length of an answer that was alone.
 #[repr(C)]
-#[derive(Drop)]
+#[derive(Clone, Copy)]
 pub struct Report {
     pub number: u8,
     pub answered: u8,
@@ -26,7 +26,7 @@ pub struct Report {
 }
 
 // What a pass over the tags heard: how many answered, and, of an answer that is alone, from whom.
-#[derive(Drop)]
+#[derive(Clone, Copy)]
 struct Pass {
     answered: u8,
     who: usize,

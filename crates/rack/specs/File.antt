@@ -1,6 +1,6 @@
 -- Document 01, "Rack file": what is read where, and the first offence in file order (the parts and places of document 02, P5). Assumes nothing.
-use Rattle.std.specs.Prelude.{Bool, true, false, not, ◌&&◌, List, ◌++◌, ℕ, zero, suc, ◌+◌, ◌*◌, eqb, ltb, leb, length, get_or, take}
-use Rattle.frame.specs.Choose.{if◌then◌else◌, gather}
+use Rattle.std.specs.Prelude.{Bool, true, false, not, ◌&&◌, List, ◌++◌, ℕ, zero, suc, ◌+◌, ◌*◌, eqb, ltb, leb, length, get_or, take, if◌then◌else◌}
+use Rattle.frame.specs.Choose.{gather}
 use Rattle.frame.specs.Number.{num, part}
 use Rattle.frame.specs.Judge.{fine, bad, or_else, first_of}
 use Rattle.frame.specs.declared.verdict.Verdict.{Verdict}

@@ -1,6 +1,5 @@
 -- Whose a place of a rack file is, also of one that is not well-formed. Assumes nothing.
-use Rattle.std.specs.Prelude.{◌≡◌, List, ℕ, zero, suc, ◌+◌, ◌-◌, ◌/◌, ◌%◌, ltb}
-use Rattle.frame.specs.Choose.{if◌then◌else◌}
+use Rattle.std.specs.Prelude.{◌≡◌, List, ℕ, zero, suc, ◌+◌, ◌-◌, ◌/◌, ◌%◌, ltb, if◌then◌else◌}
 use Rattle.rack.specs.File.{count_of, kind_of, kind_at, start_of}
 use Rattle.rack.specs.declared.place.Held.{Held}
 

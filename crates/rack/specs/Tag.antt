@@ -1,6 +1,5 @@
 -- Document 01, "Events": what an event does to one tag, by its kind, and what the tag says. Assumes nothing.
-use Rattle.std.specs.Prelude.{Bool, false, List, [], ◌∷◌, ℕ, length}
-use Rattle.frame.specs.Choose.{if◌then◌else◌}
+use Rattle.std.specs.Prelude.{Bool, false, List, [], ◌∷◌, ℕ, length, if◌then◌else◌}
 use Rattle.request.specs.Label.{data_of}
 use Rattle.label_body.specs.Body.{next_label, said_label}
 use Rattle.label_body.specs.Answer as label

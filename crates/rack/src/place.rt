@@ -7,7 +7,7 @@ use crate::file::entry_of;
 use frame::number::byte_at;
 
 // A tag, where its body starts, and its kind.
-#[derive(Drop)]
+#[derive(Clone, Copy)]
 pub struct Held {
     pub tag: usize,
     pub start: usize,

@@ -14,7 +14,7 @@ pub const LABEL: u8 = 1;
 pub const CHIP: u8 = 2;
 
 // What a tag says.
-#[derive(Drop)]
+#[derive(Clone, Copy)]
 pub enum Said {
     Nothing,
     Label(label::step::Answer),
