@@ -1,5 +1,6 @@
 -- An error is read of its own frame alone: 01 and one of the six codes, to a command that has errors. No other shape is read as an error.
 -- Assumes nothing.
+use Rattle.std.specs.Prelude.{if◌then◌else◌}
 use mathlib.Core.Path.{◌≡◌, refl, sym, ap, ◌∙◌}
 use mathlib.Core.Bool.{Bool, true, false, ◌&&◌, false≢true}
 use mathlib.Core.List.{List, [], ◌∷◌}
@@ -8,7 +9,7 @@ use native.Mathlib.Omega.{arith}
 use lib.Dec.{eqb, leb}
 use lib.ListN.{length, get_or}
 use borrow.Author.Tests.{eqb-true}
-use Rattle.frame.specs.Choose.{if◌then◌else◌, all_of}
+use Rattle.frame.specs.Choose.{all_of}
 use Rattle.frame.specs.Number.{part, Bytes}
 use Rattle.frame.specs.CheckSum.{content, framed}
 use Rattle.frame.specs.Ending.{ends_in}

@@ -1,6 +1,7 @@
 -- Each success that is read to a chip command is one that some well-formed chip gives: a chip of 80 bytes spelt out, every block the same,
 -- computes to the answer whose content was read.
 -- Assumes nothing.
+use Rattle.std.specs.Prelude.{if◌then◌else◌}
 use mathlib.Core.Path.{◌≡◌, refl, sym, ap, subst, ◌∙◌}
 use mathlib.Core.Bool.{Bool, true, false, not, ◌&&◌, ◌||◌}
 use mathlib.Core.List.{List, [], ◌∷◌, ◌++◌}
@@ -9,7 +10,7 @@ use native.Mathlib.Omega.{arith}
 use lib.Dec.{lit<, eqb, ltb}
 use lib.ListN.{length, get_or, replicate}
 use borrow.Author.Tests.{eqb-true, eq-eqb, ltb-true}
-use Rattle.frame.specs.Choose.{if◌then◌else◌, gather}
+use Rattle.frame.specs.Choose.{gather}
 use Rattle.frame.specs.Number.{part, Bytes}
 use Rattle.frame.specs.CheckSum.{content, framed}
 use Rattle.frame.specs.Judge.{fine}

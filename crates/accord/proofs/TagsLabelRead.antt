@@ -28,7 +28,6 @@ use Rattle.request.specs.declared.label.Family.{Family}
 use Rattle.request.specs.declared.label.Call.TheVariants as k
 use Rattle.request.specs.declared.label.Request.{Request}
 use Rattle.request.specs.Label.{bare, decode, data_of}
-use Rattle.label.specs.declared.step.Label.{Label}
 use Rattle.label.specs.declared.step.Answer.{Answer}
 use Rattle.label.specs.declared.step.Answer.TheVariants as a
 use Rattle.label.specs.declared.step.Stepped.{Stepped}

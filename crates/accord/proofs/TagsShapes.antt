@@ -1,5 +1,6 @@
 -- What a content that passes its tests as blocks or locks is made of: 00 and pieces, each told of the lock and the bytes of a block that there can be.
 -- Assumes nothing.
+use Rattle.std.specs.Prelude.{if◌then◌else◌}
 use mathlib.Core.Path.{◌≡◌, refl, sym, ap, ap₂, ◌∙◌}
 use mathlib.Core.Bool.{Bool, true, false, ◌&&◌}
 use mathlib.Core.List.{List, [], ◌∷◌, ◌++◌}
@@ -9,7 +10,7 @@ use lib.Dec.{lit<, eqb, leb}
 use lib.ListN.{length, get_or, drop, length-drop}
 use lib.Seq.{drop-cons}
 use borrow.Author.Tests.{eqb-true, leb-true}
-use Rattle.frame.specs.Choose.{if◌then◌else◌, all_of, gather}
+use Rattle.frame.specs.Choose.{all_of, gather}
 use Rattle.frame.specs.Number.{Bytes}
 use Rattle.frame.proofs.Bools.{and_both}
 use Rattle.frame.proofs.Lists.{window_all}

@@ -1,6 +1,7 @@
 -- Pieces of one length behind 00, as a reader cuts an answer: what is gathered is cut again into its pieces, and what is cut is gathered again;
 -- and how the answer reader goes over them.
 -- Assumes nothing.
+use Rattle.std.specs.Prelude.{if◌then◌else◌}
 use mathlib.Core.Path.{◌≡◌, refl, sym, ap, ◌∙◌}
 use mathlib.Core.Bool.{Bool, true, false, ◌&&◌}
 use mathlib.Core.List.{List, [], ◌∷◌, ◌++◌}
@@ -12,7 +13,7 @@ use lib.Dec.{eqb, leb}
 use lib.ListN.{length, get_or, take, drop, length-drop}
 use lib.Seq.{take_all, take-add, drop-cons, get_or-append-add, get_or-take}
 use borrow.Author.Tests.{le-leb, lt-leb, eq-eqb, ne_eqb, eqb-true}
-use Rattle.frame.specs.Choose.{if◌then◌else◌, all_of, gather}
+use Rattle.frame.specs.Choose.{all_of, gather}
 use Rattle.frame.specs.Number.{part, Bytes}
 use Rattle.frame.proofs.Bools.{and_both, and_false, if_false}
 use Rattle.frame.proofs.Lists.{drop_head, gather_none, gather_suc}

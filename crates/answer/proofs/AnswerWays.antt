@@ -1,6 +1,7 @@
 -- The ways out of the answer reader's functions that no ladder of tests on numbers closes: where a function called decides, and the arms of
 -- a match, each the definition at that case. Each is a law over plain variables; the set `ways` holds those that a search is to find.
 -- Assumes nothing.
+use Rattle.std.specs.Prelude.{if◌then◌else◌}
 use mathlib.Core.Path.{◌≡◌, refl, sym, ap, ◌∙◌}
 use mathlib.Core.Bool.{Bool, true, false, not, ◌&&◌, false≢true}
 use mathlib.Core.List.{List}
@@ -11,7 +12,7 @@ use lib.ListN.{length, get_or, take}
 use lib.Seq.{take_all}
 use borrow.Author.Tests.{lt-ltb, le-ltb, le-leb, lt-leb, eq-eqb, ne_eqb, leb-true, leb-false, not-true, not-false}
 use Rattle.frame.specs.Number.{num, part, Bytes}
-use Rattle.frame.specs.Choose.{if◌then◌else◌, all_of}
+use Rattle.frame.specs.Choose.{all_of}
 use Rattle.frame.specs.CheckSum.{right, content}
 use Rattle.frame.specs.Ending.{ends_in}
 use Rattle.frame.proofs.Numbers.{num_lt}

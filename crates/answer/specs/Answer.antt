@@ -1,6 +1,6 @@
 -- Document 01, "Reader's side", and document 02, P2: what a frame means to the command that was sent. Assumes nothing.
-use Rattle.std.specs.Prelude.{Bool, true, false, not, ◌&&◌, ◌||◌, List, ℕ, ◌+◌, ◌-◌, ◌*◌, ◌/◌, ◌%◌, ◌≤◌, eqb, ltb, leb, length, get_or, replicate}
-use Rattle.frame.specs.Choose.{if◌then◌else◌, all_of}
+use Rattle.std.specs.Prelude.{Bool, true, false, not, ◌&&◌, ◌||◌, List, ℕ, ◌+◌, ◌-◌, ◌*◌, ◌/◌, ◌%◌, ◌≤◌, eqb, ltb, leb, length, get_or, replicate, if◌then◌else◌}
+use Rattle.frame.specs.Choose.{all_of}
 use Rattle.frame.specs.Number.{num, part}
 use Rattle.frame.specs.CheckSum.{right, content}
 use Rattle.frame.specs.Ending.{ends_in}

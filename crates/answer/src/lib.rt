@@ -1,2 +1,4 @@
 // The answer reader: what a frame means to the command that was sent.
+#![tactic(auto)]
+
 pub mod reading;

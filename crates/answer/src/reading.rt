@@ -16,7 +16,7 @@ use request::label::{Params, Target};
 use request::table::{Success, Task, has_answer, row_of};
 
 // What an answer means. UIDs stand beside the meaning; of a block the place of its bytes in the frame and how many there are.
-#[derive(Drop)]
+#[derive(Clone, Copy)]
 pub enum Meaning {
     // 7, 8 or 9.
     Refused(u8),
@@ -44,7 +44,7 @@ pub enum Meaning {
     Locks(usize, usize),
 }
 
-#[derive(Drop)]
+#[derive(Clone, Copy)]
 pub struct Reading {
     pub meaning: Meaning,
     pub uid: [u8; 8],

@@ -1,5 +1,6 @@
 -- The UID beside a command: one UID is eight bytes, and where the target is another nothing depends on them.
 -- Assumes nothing.
+use Rattle.std.specs.Prelude.{if◌then◌else◌}
 use mathlib.Core.Path.{◌≡◌, refl, ap}
 use mathlib.Core.Bool.{Bool, true, false}
 use mathlib.Core.List.{List}
@@ -8,7 +9,6 @@ use native.Mathlib.Omega.{arith}
 use lib.Dec.{eqb, ltb}
 use borrow.Author.Tests.{ltb-false, eqb-false}
 use lib.ListN.{length}
-use Rattle.frame.specs.Choose.{if◌then◌else◌}
 use Rattle.frame.specs.CheckSum.{framed}
 use Rattle.request.specs.declared.label.Family.{Family}
 use Rattle.request.specs.declared.label.Params.{Params}
@@ -27,7 +27,7 @@ use Rattle.reader.specs.Command.{valid}
 use Rattle.reader.specs.Request.{content, encode}
 use Rattle.answer.specs.Answer.{info_of, success_of, label_reading, shape_of, reading_of}
 use Rattle.face.specs.declared.fields.Fields.{Fields}
-use Rattle.face.specs.Fields.{family_of, target_of, task_command, chip_command, label_command, command_of, uid_of, command_for}
+use Rattle.face.specs.Fields.{target_of, task_command, chip_command, label_command, command_of, uid_of, command_for}
 
 -- eight bytes are the UID, and leave the command as its numbers name it
 pub uid_eight : (bytes : List ℕ) → length bytes ≡ 8 → uid_of bytes ≡ bytes

@@ -14,7 +14,7 @@ use Rattle.face.specs.Told.{told_as, told_of}
 pub tell_arm : (r : Told) (meaning x : Meaning) (uid : ℕ) → meaning ≡ x → r ≡ told_as x uid → r ≡ told_as meaning uid
 tell_arm r meaning x uid e h = rw e h
 
-pub told_of : (r : Told) (x : Reading) (c k : Command) (uid v : List ℕ) (n u : ℕ) (s : List ℕ) → c ≡ k → uid ≡ v → x ≡ reading_of c uid n s
+pub told_way : (r : Told) (x : Reading) (c k : Command) (uid v : List ℕ) (n u : ℕ) (s : List ℕ) → c ≡ k → uid ≡ v → x ≡ reading_of c uid n s
     → u ≡ num x.uid → r ≡ told_as x.meaning u → r ≡ told_of (reading_of k v n s)
 unfolding told_of
-told_of r x c k uid v n u s e i h w g = rw (← e, ← i, ← h, ← w) g
+told_way r x c k uid v n u s e i h w g = rw (← e, ← i, ← h, ← w) g

@@ -1,7 +1,6 @@
 -- What the numbers of the C face mean: which command they name. A command of other numbers is `Other`, which no request has.
 -- Assumes nothing.
-use Rattle.std.specs.Prelude.{Bool, true, false, List, ℕ, eqb, ltb, length, replicate}
-use Rattle.frame.specs.Choose.{if◌then◌else◌}
+use Rattle.std.specs.Prelude.{Bool, true, false, List, ℕ, eqb, ltb, length, replicate, if◌then◌else◌}
 use Rattle.request.specs.declared.label.Family.{Family}
 use Rattle.request.specs.declared.label.Family.TheVariants.{Any, Only}
 use Rattle.request.specs.declared.label.Target.{Target}

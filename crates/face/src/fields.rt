@@ -12,7 +12,7 @@ use request::table::{Found, find};
 // A command's numbers; which of them count depends on the command. given says whether there is an AFI;
 // byte is a block, an address, a slot, a Chip_ID or a value to write; more is how many blocks are asked for behind that one.
 #[repr(C)]
-#[derive(Drop)]
+#[derive(Clone, Copy)]
 pub struct Fields {
     pub kind: u8,
     pub target: u8,
@@ -95,6 +95,7 @@ fn label_command(f: Fields, to: Target) -> Command
     task_command(f.code, to, f.option, f.byte, f.more)
 }
 
+#[tactic(auto, unfolding(crate::specs::Fields::command_of))]
 pub fn command_of(f: Fields) -> Command
     ensures { result ≡ command_of f }
 {
@@ -122,6 +123,7 @@ pub fn uid_of(bytes: &[u8]) -> [u8; 8]
 }
 
 // The command of these numbers with n bytes of a UID.
+#[tactic(auto, unfolding(crate::specs::Fields::command_for))]
 pub fn command_for(f: Fields, n: usize) -> Command
     ensures { result ≡ command_for f n }
 {

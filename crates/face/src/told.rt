@@ -6,7 +6,7 @@ use answer::reading::Meaning;
 
 // What a reading says; what does not go with its meaning is 0.
 #[repr(C)]
-#[derive(Drop)]
+#[derive(Clone, Copy)]
 pub struct Told {
     pub number: u8,
     pub meaning: u8,

@@ -1,5 +1,6 @@
 -- A plan's parts, one behind the other, are the request's bytes, and fit the room that every buffer has: by the cases of the command.
 -- Assumes nothing.
+use Rattle.std.specs.Prelude.{if◌then◌else◌}
 use mathlib.Core.Path.{◌≡◌, refl, ap, ◌∙◌}
 use mathlib.Core.Bool.{Bool, true, false}
 use mathlib.Core.List.{List, [], ◌∷◌, ◌++◌, append_assoc, append-nil}
@@ -9,7 +10,6 @@ use native.Mathlib.Omega.{arith}
 use lib.Dec.{lit<}
 use lib.ListN.{length, take, length-append}
 use lib.Seq.{sets, take_all, take-length, length-take-le}
-use Rattle.frame.specs.Choose.{if◌then◌else◌}
 use Rattle.frame.specs.Number.{bytes_of}
 use Rattle.frame.specs.CheckSum.{framed, crc_of}
 use Rattle.frame.specs.Ending.{bytes_for}

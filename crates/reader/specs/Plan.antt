@@ -1,6 +1,5 @@
 -- Not for the reader of the paper: how the code puts a request together. Laws say that this comes to what Request says. Assumes nothing.
-use Rattle.std.specs.Prelude.{Bool, List, ◌++◌, ℕ, ◌+◌, ◌-◌, ◌*◌, ◌≤◌, ◌<◌, take}
-use Rattle.frame.specs.Choose.{if◌then◌else◌}
+use Rattle.std.specs.Prelude.{Bool, List, ◌++◌, ℕ, ◌+◌, ◌-◌, ◌*◌, ◌≤◌, ◌<◌, take, if◌then◌else◌}
 use Rattle.frame.specs.Number.{bytes_of}
 use Rattle.frame.specs.Ending.{bytes_for}
 use Rattle.request.specs.declared.label.Target.{Target}

@@ -1,6 +1,5 @@
 -- Document 01, "Reader's side", and document 02, P2: the bytes of a request, and what the writer leaves. Assumes nothing.
-use Rattle.std.specs.Prelude.{◌≡◌, Bool, List, [], ◌∷◌, ◌++◌, ℕ, ◌+◌, ◌-◌, ◌*◌, eqb, ltb, length, get_or, take, drop, replicate}
-use Rattle.frame.specs.Choose.{if◌then◌else◌}
+use Rattle.std.specs.Prelude.{◌≡◌, Bool, List, [], ◌∷◌, ◌++◌, ℕ, ◌+◌, ◌-◌, ◌*◌, eqb, ltb, length, get_or, take, drop, replicate, if◌then◌else◌}
 use Rattle.frame.specs.Number.{num, bytes_of}
 use Rattle.frame.specs.CheckSum.{framed}
 use Rattle.frame.specs.Ending.{bytes_for}

@@ -11,7 +11,7 @@ use request::label::{Family, Params, Target, most_bits, target_fits};
 use request::table::{Row, Task, option_fits, row_of};
 
 // What a chip is asked. A write's four bytes stand beside the command.
-#[derive(Drop)]
+#[derive(Clone, Copy)]
 pub enum ChipTask {
     Initiate,
     Pcall,
@@ -25,7 +25,7 @@ pub enum ChipTask {
 }
 
 // Each command carries its own target; where that is one UID, the UID's bytes stand beside the command. The bool is Option.
-#[derive(Drop)]
+#[derive(Clone, Copy)]
 pub enum Command {
     // Family, whether sixteen slots, mask length, mask.
     Inventory(Target, bool, Family, bool, u8, u64),

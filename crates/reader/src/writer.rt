@@ -1,6 +1,5 @@
 // The request writer.
-ghost use Rattle.std.specs.Prelude.{◌≡◌, ◌+◌, ◌*◌, ◌≤◌, ◌<◌, length};
-ghost use Rattle.frame.specs.Choose.{if◌then◌else◌};
+ghost use Rattle.std.specs.Prelude.{◌≡◌, ◌+◌, ◌*◌, ◌≤◌, ◌<◌, length, if◌then◌else◌};
 ghost use Rattle.frame.specs.CheckSum.{framed};
 ghost use Rattle.frame.specs.Ending.{bytes_for};
 ghost use Rattle.reader.specs.Request.{mode, flags, at_front, Wrote};
@@ -19,14 +18,14 @@ const LEAST: usize = 64;
 
 // What the writer comes back with: the refusal's number or 0, and the request's length.
 #[repr(C)]
-#[derive(Drop)]
+#[derive(Clone, Copy)]
 pub struct Written {
     pub number: u8,
     pub length: usize,
 }
 
 // What a request is made of, one behind the other: the low bytes of a number, bytes of the UID, low bytes of two more numbers, data.
-#[derive(Drop)]
+#[derive(Clone, Copy)]
 pub struct Plan {
     pub head: u64,
     pub heads: usize,
