@@ -1,11 +1,11 @@
 -- Demand 1 holds: each call tests for the table's number first. Assumes nothing.
+use Rattle.std.specs.Prelude.{if◌then◌else◌}
 use mathlib.Core.Path.{◌≡◌, refl}
 use mathlib.Core.Bool.{Bool, true, false}
 use Prim.Native.Nat.{ℕ}
 use borrow.Author.Tests.{eqb-true, ne_eqb}
 use lib.Dec.{eqb}
 use lib.ListN.{length}
-use Rattle.frame.specs.Choose.{if◌then◌else◌}
 use Rattle.event.specs.Event as event
 use Rattle.inventory.specs.Walk as walk
 use Rattle.reader.specs.declared.writer.Written.{Written}

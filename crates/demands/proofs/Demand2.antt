@@ -1,16 +1,17 @@
 -- Demand 2 holds: the frame that was written is played, each tag takes it as the command means it, and an answer that is alone is read to its tag's meaning.
 -- Idea: event and answers are laws of one body, by its kind; who answered alone is found along the bodies. Assumes nothing.
+use Rattle.std.specs.Prelude.{if◌then◌else◌}
 use mathlib.Core.Path.{◌≡◌, refl, ap, sym, ◌∙◌}
 use mathlib.Core.Logic.{⊎_elim}
-use mathlib.Core.Bool.{Bool, true, false, not, ◌&&◌, false≢true}
+use mathlib.Core.Bool.{Bool, true, false, ◌&&◌, false≢true}
 use mathlib.Core.List.{List, [], ◌∷◌, ◌++◌, append-nil}
-use Prim.Native.Nat.{ℕ, zero, suc, ◌+◌, ◌≤◌, ◌<◌}
+use Prim.Native.Nat.{ℕ, zero, suc, ◌≤◌, ◌<◌}
 use native.Mathlib.Omega.{arith}
 use borrow.Author.Tests.{eqb-true, eq-eqb, le-ltb}
 use lib.Dec.{eqb, ltb, leb}
 use lib.ListN.{length, get_or, take, drop, length-append}
 use lib.Seq.{take_at}
-use Rattle.frame.specs.Choose.{if◌then◌else◌, gather}
+use Rattle.frame.specs.Choose.{gather}
 use Rattle.frame.specs.Number.{Bytes}
 use Rattle.frame.proofs.Bools.{same_or_not}
 use Rattle.frame.proofs.Lists.{gather_none}

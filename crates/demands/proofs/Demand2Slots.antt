@@ -36,7 +36,7 @@ use Rattle.accord.proofs.TagsChipRead.{chip_read}
 use Rattle.rack.specs.File as kinds
 use Rattle.rack.specs.File.{Kind, count_of, kind_at, length_at, start_of, body_at, rebuilt, body_rules}
 use Rattle.rack.specs.Facts.{TagFine}
-use Rattle.rack.specs.Tag.{Event, aired, said_by, frame_of}
+use Rattle.rack.specs.Tag.{aired, said_by, frame_of}
 use Rattle.rack.proofs.FileVerdict.{rack_fine}
 use Rattle.rack.proofs.FileRebuilt.{rebuilt_count, rebuilt_kind, rebuilt_body, tag_fine}
 use Rattle.rack.proofs.TagKinds.{fits_none, chip_80}

@@ -1,4 +1,5 @@
 -- The marked examples (a) to (j): chips and the check sum compute, a label in its slot goes by the four bits above the mask. Assumes nothing.
+use Rattle.std.specs.Prelude.{if◌then◌else◌}
 use mathlib.Core.Path.{◌≡◌, refl, ap, ◌∙◌}
 use mathlib.Core.Bool.{Bool, true, false}
 use mathlib.Core.List.{List, [], ◌∷◌}
@@ -7,7 +8,6 @@ use native.Mathlib.Omega.{arith}
 use borrow.Author.Tests.{lt-ltb}
 use lib.Dec.{eqb}
 use lib.ListN.{get_or, take}
-use Rattle.frame.specs.Choose.{if◌then◌else◌}
 use Rattle.frame.specs.Number.{num, part}
 use Rattle.frame.specs.Ending.{ends_in, ends_in_slot}
 use Rattle.frame.specs.CheckSum.{crc_bit, crc_bits, crc_byte, crc_run, crc_with, framed_with, right_with}

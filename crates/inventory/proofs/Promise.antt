@@ -1,5 +1,6 @@
 -- Demand 3 for a rack of bytes: what the walk lists, how many rounds it takes, and the rack it leaves; that draws and answer buffers do not matter;
 -- and that the statement leaves one reply. Idea: `trip_is`, then the counting theorem at four bits a round. Assumes nothing.
+use Rattle.std.specs.Prelude.{if◌then◌else◌}
 use mathlib.Core.Path.{◌≡◌, refl, ap, sym, ◌∙◌}
 use mathlib.Core.Bool.{Bool, true, false, not}
 use mathlib.Core.List.{List}
@@ -9,7 +10,6 @@ use borrow.Author.Tests.{eqb-true, ltb-false, le-ltb, ne_eqb}
 use lib.Dec.{eqb, ltb}
 use lib.ListN.{length, length-replicate}
 use lib.Seq.{sets}
-use Rattle.frame.specs.Choose.{if◌then◌else◌}
 use Rattle.frame.specs.Number.{Bytes}
 use Rattle.request.specs.declared.label.Family.{Family}
 use Rattle.request.specs.declared.label.Family.TheVariants.{Any}

@@ -1,11 +1,11 @@
 -- Any tag's body through a round: a label's is `during`, any other stays. Idea: by the kind, each law is the label's own or that of a body that
 -- stays. Assumes nothing.
+use Rattle.std.specs.Prelude.{if◌then◌else◌}
 use mathlib.Core.Path.{◌≡◌, refl, ap}
 use mathlib.Core.Bool.{Bool, true, false, ◌&&◌}
 use mathlib.Core.List.{List, [], ◌∷◌}
 use Prim.Native.Nat.{ℕ, suc, ◌^◌, ◌≤◌, ◌<◌}
 use lib.ListN.{length}
-use Rattle.frame.specs.Choose.{if◌then◌else◌}
 use Rattle.frame.specs.Number.{part, Bytes}
 use Rattle.frame.specs.Ending.{ends_in_slot}
 use Rattle.frame.specs.declared.verdict.Verdict.{Verdict}

@@ -1,5 +1,6 @@
 -- The UIDs gathered, and from the frames heard in a slot to the members of a mask among them. Idea: a tag has one UID or none, and its frame, if it
 -- speaks, holds it; then over all tags by `gather`. Assumes nothing.
+use Rattle.std.specs.Prelude.{if◌then◌else◌}
 use mathlib.Core.Path.{◌≡◌, refl, ap, sym, ◌∙◌}
 use mathlib.Core.Bool.{Bool, true, false, ◌&&◌}
 use mathlib.Core.List.{List, [], ◌∷◌, map}
@@ -9,7 +10,7 @@ use borrow.Author.Tests.{ne_eqb}
 use lib.Dec.{eqb}
 use lib.ListN.{length, get_or, drop, length-map}
 use lib.Seq.{length-take-le, take_at}
-use Rattle.frame.specs.Choose.{if◌then◌else◌, gather}
+use Rattle.frame.specs.Choose.{gather}
 use Rattle.frame.specs.Number.{num, bytes_of, part, Bytes}
 use Rattle.frame.specs.CheckSum.{framed_with, crc_of}
 use Rattle.frame.specs.Ending.{ends_in, ends_in_slot}

@@ -1,7 +1,7 @@
 -- Document 01, "Walk": the events sent to the rack in turn, and what the walk makes of their replies. Assumes nothing.
-use Rattle.std.specs.Prelude.{Bool, true, false, not, List, [], ◌∷◌, ◌++◌, ℕ, zero, suc, ◌+◌, ◌-◌, ◌*◌, ◌/◌, eqb, ltb, leb, length, get_or, replicate}
+use Rattle.std.specs.Prelude.{Bool, true, false, not, List, [], ◌∷◌, ◌++◌, ℕ, zero, suc, ◌+◌, ◌-◌, ◌*◌, ◌/◌, eqb, ltb, leb, length, get_or, replicate, if◌then◌else◌}
 use Rattle.std.proofs.lemmas.List.Edits.{sets}
-use Rattle.frame.specs.Choose.{if◌then◌else◌, gather}
+use Rattle.frame.specs.Choose.{gather}
 use Rattle.frame.specs.Number.{bytes_of, part}
 use Rattle.frame.specs.CheckSum.{framed}
 use Rattle.frame.specs.Ending.{longer, bytes_for}

@@ -1,4 +1,6 @@
 // The inventory walk.
+#![tactic(auto)]
+
 pub mod clear;
 pub mod round;
 pub mod taking;

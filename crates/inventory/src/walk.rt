@@ -14,14 +14,14 @@ use request::label::Family;
 
 // What a walk comes back with: the refusal's number or 0, how many labels the list holds, how many rounds it took.
 #[repr(C)]
-#[derive(Drop)]
+#[derive(Clone, Copy)]
 pub struct Walked {
     pub number: u8,
     pub labels: usize,
     pub rounds: usize,
 }
 
-#[derive(Drop)]
+#[derive(Clone, Copy)]
 struct Went {
     cursor: usize,
     rounds: usize,
@@ -57,7 +57,7 @@ fn carry(us: &mut [u64], list: &mut [u8], bits: u8, cursor: usize) -> Went
     Went { cursor: at, rounds }
 }
 
-#[derive(Drop)]
+#[derive(Clone, Copy)]
 struct Begun {
     number: u8,
     labels: usize,
