@@ -1,4 +1,6 @@
 // The calls for a station's test bench, in C: numbers, bytes with their length, plain structs. include/sackbutflare.h declares them.
+#![tactic(auto)]
+
 ghost use Rattle.std.specs.Prelude.{◌≡◌, length};
 ghost use Rattle.frame.specs.CheckSum.{crc_of};
 ghost use Rattle.event.specs.Event.{Replied};
