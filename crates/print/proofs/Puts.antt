@@ -1,5 +1,6 @@
 -- Texts laid one behind the other are one text laid. A loop that lays a text part by part keeps "what is still ahead leads to the same end", `Ahead`.
 -- Assumes nothing.
+use Rattle.std.specs.Prelude.{if◌then◌else◌}
 use mathlib.Core.Path.{◌≡◌, refl, ap, sym, ◌∙◌}
 use mathlib.Core.Logic.{⊎_elim}
 use mathlib.Core.Bool.{Bool, true, false}
@@ -10,7 +11,7 @@ use borrow.Author.Rules.{rules}
 use borrow.Author.Tests.{le-leb, lt-leb}
 use lib.ListN.{length, take, drop, take-append-drop, length-append}
 use lib.Seq.{sets, set_out, length-sets, length-take-le, take-length, take_all, take_at}
-use Rattle.frame.specs.Choose.{if◌then◌else◌, gather}
+use Rattle.frame.specs.Choose.{gather}
 use Rattle.frame.proofs.Bools.{below_or_not}
 use Rattle.frame.proofs.Tests.{tests}
 use Rattle.frame.proofs.Lists.{gather_none, gather_more}

@@ -1,6 +1,5 @@
 -- Bytes in hex. Assumes nothing.
-use Rattle.std.specs.Prelude.{List, [], ◌∷◌, reverse, ℕ, ◌+◌, ◌/◌, ◌%◌, ltb}
-use Rattle.frame.specs.Choose.{if◌then◌else◌}
+use Rattle.std.specs.Prelude.{List, [], ◌∷◌, reverse, ℕ, ◌+◌, ◌/◌, ◌%◌, ltb, if◌then◌else◌}
 
 -- the capital digit of a number below 16, or `?`
 unfoldable pub digit_of : ℕ → ℕ

@@ -1,6 +1,6 @@
 -- A line of words is played as meant: the event has the frame that a reader writes for its command, which the tags take as RequestTaken of accord says.
 -- Assumes nothing.
-use mathlib.Core.Path.{◌≡◌, refl, ap, sym, ◌∙◌}
+use mathlib.Core.Path.{◌≡◌, refl, ap, ◌∙◌}
 use mathlib.Core.List.{List}
 use Prim.Native.Nat.{ℕ}
 use lib.ListN.{length, drop}

@@ -1,17 +1,12 @@
 -- What comes of a command, by what its data and its words say. Assumes nothing.
-use mathlib.Core.Path.{◌≡◌, refl, ap, sym, subst, ◌∙◌}
-use mathlib.Core.Bool.{Bool, true, false}
-use mathlib.Core.List.{List, ◌++◌}
-use Prim.Native.Nat.{ℕ, ◌+◌, ◌-◌, ◌≤◌}
+use mathlib.Core.Path.{◌≡◌, refl, ap, sym, ◌∙◌}
+use mathlib.Core.List.{List}
+use Prim.Native.Nat.{ℕ, ◌-◌}
 use native.Mathlib.Nat.{sub-zero}
-use native.Mathlib.Omega.{arith}
-use lib.Dec.{eqb}
-use lib.ListN.{length, take, drop, length-append}
-use Rattle.frame.specs.Choose.{if◌then◌else◌}
-use Rattle.frame.proofs.Bools.{if_both}
+use lib.ListN.{length, take}
 use Rattle.reader.specs.declared.command.Command.{Command}
 use Rattle.reader.specs.declared.writer.Written.{Written}
-use Rattle.reader.specs.Request.{least, refusal_of, encode, at_front, written_of, out_of, Wrote, event_for}
+use Rattle.reader.specs.Request.{least, Wrote}
 use Rattle.verbs.specs.declared.commands.Says.{Says}
 use Rattle.verbs.specs.declared.commands.Says.TheVariants as says
 use Rattle.verbs.specs.declared.data.DataRead.{DataRead}
@@ -19,11 +14,11 @@ use Rattle.verbs.specs.declared.data.DataRead.TheVariants as got
 use Rattle.verbs.specs.declared.trouble.Trouble.{Trouble}
 use Rattle.verbs.specs.declared.commands.Asked.{Asked}
 use Rattle.verbs.specs.Commands.{line_asked}
-use Rattle.verbs.specs.Data.{DataSaid, Said, data_from}
+use Rattle.verbs.specs.Data.{Said, data_from}
 use Rattle.verbs.proofs.DataHeld.{data_front}
 use Rattle.script.specs.declared.lines.Action.{Action}
 use Rattle.script.specs.declared.lines.Action.TheVariants as act
-use Rattle.script.specs.Commands.{sent_action, Sent, Sends, left, sent, sent_by, sent_from, asked_by, command_of}
+use Rattle.script.specs.Commands.{sent_action, Sends, sent, sent_by, sent_from, asked_by, command_of}
 
 -- the writer's own statement
 pub sends_written : (c : Command) (uid d out : List ℕ) {w : Written} {now : List ℕ} {a : Action} → Wrote c uid d out w now → a ≡ sent_action c w

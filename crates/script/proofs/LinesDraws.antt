@@ -6,7 +6,7 @@ use native.Mathlib.Nat.{sub-zero}
 use native.Mathlib.Omega.{arith}
 use borrow.Author.Tests.{lt-ltb, le-ltb, ltb-false}
 use lib.Dec.{ltb}
-use lib.ListN.{length, get_or, take, drop, set}
+use lib.ListN.{length, get_or, drop, set}
 use lib.Seq.{sets, drop-length, drop-drop}
 use Rattle.frame.proofs.Bools.{if_either}
 use Rattle.frame.proofs.Lists.{drop_head}

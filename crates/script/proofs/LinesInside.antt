@@ -1,4 +1,5 @@
 -- For callers: the frame that a line asks to be played is within the buffer that it was read to. Assumes nothing.
+use Rattle.std.specs.Prelude.{if◌then◌else◌}
 use mathlib.Core.Path.{◌≡◌, refl, sym, subst, ◌∙◌}
 use mathlib.Core.Bool.{Bool, true, false}
 use mathlib.Core.List.{List, [], ◌∷◌}
@@ -11,7 +12,6 @@ use lib.Seq.{length-sets}
 use Rattle.frame.specs.Number.{bytes_of}
 use Rattle.frame.specs.CheckSum.{crc_of}
 use Rattle.frame.proofs.Bools.{if_either, if_both}
-use Rattle.frame.specs.Choose.{if◌then◌else◌}
 use Rattle.reader.specs.declared.command.Command.{Command}
 use Rattle.reader.specs.Request.{least, refusal_of, encode, at_front, written_of, out_of}
 use Rattle.text.proofs.RunsWithin.{run_within}

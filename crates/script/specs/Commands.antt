@@ -1,6 +1,5 @@
 -- A command that a line asks: the frame that a reader sends for it. Assumes nothing.
-use Rattle.std.specs.Prelude.{◌≡◌, List, ℕ, eqb}
-use Rattle.frame.specs.Choose.{if◌then◌else◌}
+use Rattle.std.specs.Prelude.{◌≡◌, List, ℕ, eqb, if◌then◌else◌}
 use Rattle.reader.specs.declared.command.Command.{Command}
 use Rattle.reader.specs.declared.writer.Written.{Written}
 use Rattle.reader.specs.Request.{least, event_for, written_of, out_of}

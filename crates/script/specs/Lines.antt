@@ -1,7 +1,6 @@
 -- What an event line asks: its first word, and behind it hex, blanks or a comment; or a command. Assumes nothing.
-use Rattle.std.specs.Prelude.{Bool, true, false, List, [], ◌∷◌, ℕ, zero, suc, ◌+◌, ltb, length, take, drop}
+use Rattle.std.specs.Prelude.{Bool, true, false, List, [], ◌∷◌, ℕ, zero, suc, ◌+◌, ltb, length, take, drop, if◌then◌else◌}
 use Rattle.std.proofs.lemmas.List.Edits.{sets}
-use Rattle.frame.specs.Choose.{if◌then◌else◌}
 use Rattle.frame.specs.Number.{bytes_of}
 use Rattle.frame.specs.CheckSum.{crc_of}
 use Rattle.text.specs.Words.{first_word}

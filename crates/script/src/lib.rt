@@ -1,4 +1,6 @@
 // Events as lines of text: what a line asks.
+#![tactic(auto)]
+
 pub mod commands;
 pub mod draws;
 pub mod lines;

@@ -12,7 +12,7 @@ use verbs::tokens::{is_empty, word_from};
 use verbs::trouble::{Trouble, What, expected};
 
 // What a line asks to be done.
-#[derive(Drop)]
+#[derive(Clone, Copy)]
 pub enum Action {
     // A blank line, a comment or draws, which are set.
     Nothing,

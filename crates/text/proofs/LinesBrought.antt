@@ -6,7 +6,6 @@ use Prim.Native.Nat.{ℕ, ◌+◌, ◌-◌, ◌≤◌, ◌<◌}
 use native.Mathlib.Nat.{add-zero}
 use native.Mathlib.Omega.{arith}
 use borrow.Rule.Slice.PartMut.{mid_of, put_mid, same_len_mid, mid_len, take_put}
-use lib.IntN.{ℤ}
 use lib.ListN.{length, take, drop, length-drop, take-append-drop}
 use lib.Seq.{length-take-le, take-take, drop-append-le, drop-length}
 use Rattle.text.proofs.WordsLead.{lead_append}
@@ -85,26 +84,23 @@ module _ {n end : ℕ} {old buf : List ℕ} (r : Reading n old buf end) {at to :
   reading_on h g = let b = behind in let q = r.order in record { long = r.long; order = omega arith; within = w; kept = r.kept; none = omega arith }
 
   -- one came
-  pub brought_line : {fd z : ℤ} {x : Source} {g : Got} → at < to → z ≡ fd → x ≡ holds z (at + 1) to → g ≡ line_at buf 0 at x → Brought fd n old buf g
-  brought_line {fd} h q f k =
+  pub brought_line : {x : Source} {g : Got} → at < to → x ≡ holds (at + 1) to → g ≡ line_at buf 0 at x → Brought n old buf g
+  brought_line h f k =
       let b = behind in
-      Whole to w r.kept (omega arith)
-      (k ∙ ap (line_at buf 0 at) (f ∙ ap (λ (y : ℤ). holds y (at + 1) to) q) ∙ ap (λ (i : ℕ). line_at buf 0 i (holds fd (i + 1) to)) b)
+      Whole to w r.kept (omega arith) (k ∙ ap (line_at buf 0 at) f ∙ ap (λ (i : ℕ). line_at buf 0 i (holds (i + 1) to)) b)
 
 -- no more comes
-pub brought_last : {n end : ℕ} {old buf : List ℕ} {fd z : ℤ} {g : Got} (fine : Bool) → Reading n old buf end → z ≡ fd → g ≡ stopped_at z end fine
-    → Brought fd n old buf g
-brought_last {end = end} fine r q e = Last end fine r.within r.kept r.none (e ∙ ap (λ (y : ℤ). stopped_at y end fine) q)
+pub brought_last : {n end : ℕ} {old buf : List ℕ} {g : Got} (fine : Bool) → Reading n old buf end → g ≡ stopped_at end fine → Brought n old buf g
+brought_last {end = end} fine r e = Last end fine r.within r.kept r.none e
 
--- ---- the rest of a line that was too long, as `pass` goes over it: z is the descriptor that callees were handed
+-- ---- the rest of a line that was too long, as `pass` goes over it
 
-module _ {fd z : ℤ} (q : z ≡ fd) {new : List ℕ} {x : Source} {g : Got} (f : g ≡ no_line Long x) where
-  pub pass_ended : x ≡ ended_at z → Passed fd new g
-  pass_ended e = Ended (f ∙ ap (no_line Long) (e ∙ ap ended_at q))
+module _ {new : List ℕ} {x : Source} {g : Got} (f : g ≡ no_line Long x) where
+  pub pass_ended : x ≡ ended_at → Passed new g
+  pass_ended e = Ended (f ∙ ap (no_line Long) e)
 
-  pub pass_behind : {at n : ℕ} → n ≤ length new → at ≡ newline_in new 0 n → at < n → x ≡ holds z (at + 1) n → Passed fd new g
-  pass_behind {at} {n} h e l k =
-      Behind n h (omega arith) (f ∙ ap (no_line Long) (k ∙ ap (λ (y : ℤ). holds y (at + 1) n) q ∙ ap (λ (i : ℕ). holds fd (i + 1) n) e))
+  pub pass_behind : {at n : ℕ} → n ≤ length new → at ≡ newline_in new 0 n → at < n → x ≡ holds (at + 1) n → Passed new g
+  pass_behind {at} {n} h e l k = Behind n h (omega arith) (f ∙ ap (no_line Long) (k ∙ ap (λ (i : ℕ). holds (i + 1) n) e))
 
-pub brought_long : {fd z : ℤ} {n : ℕ} {old new : List ℕ} {g : Got} → z ≡ fd → Passed z new g → Brought fd n old new g
-brought_long q p = TooLong (rw q at p)
+pub brought_long : {n : ℕ} {old new : List ℕ} {g : Got} → Passed new g → Brought n old new g
+brought_long p = TooLong p

@@ -6,7 +6,6 @@ use Prim.Native.Nat.{ℕ, suc, ◌+◌, ◌-◌, ◌≤◌, ◌<◌}
 use native.Mathlib.Nat.{add-zero, sub-zero}
 use native.Mathlib.Omega.{arith}
 use borrow.Author.Tests.{eq-eqb, ne_eqb}
-use lib.IntN.{ℤ}
 use lib.ListN.{length, get_or, take, drop, set}
 use lib.Seq.{sets, length-take-le, get_or-take, drop-cons, drop-set-lt}
 use Rattle.frame.specs.Number.{part}
@@ -60,26 +59,26 @@ module _ (s : List ℕ) (from to : ℕ) (source : Source) where
     unfolding line_end
     line_plain g = ap line_to (sym (rw (ne_eqb to from h, ne_eqb (get_or s (to - 1) 0) 13 g) refl))
 
--- z is the descriptor that callees were handed, x what they made of it
-module _ {fd z : ℤ} (q : z ≡ fd) (to : ℕ) {x : Source} (e : x ≡ ended_at z) where
-  pub none_left : {g : Got} → g ≡ no_line End x → g ≡ no_line End (ended_at fd)
-  none_left f = f ∙ ap (no_line End) (e ∙ ap ended_at q)
+-- x is what the callee made
+module _ (to : ℕ) {x : Source} (e : x ≡ ended_at) where
+  pub none_left : {g : Got} → g ≡ no_line End x → g ≡ no_line End ended_at
+  none_left f = f ∙ ap (no_line End) e
 
-  pub last_none : {g : Got} → to ≡ 0 → g ≡ no_line End x → g ≡ last_line fd to
+  pub last_none : {g : Got} → to ≡ 0 → g ≡ no_line End x → g ≡ last_line to
   unfolding last_line
   last_none h f = none_left f ∙ sym (rw (eq-eqb to 0 h) refl)
 
-  pub last_there : (to ≡ 0 → ⊥) → record { reached = Line; from = 0; to = to; source = x } ≡ last_line fd to
+  pub last_there : (to ≡ 0 → ⊥) → record { reached = Line; from = 0; to = to; source = x } ≡ last_line to
   unfolding last_line
-  last_there h = ap (λ (y : Source). record { reached = Line; from = 0; to = to; source = y }) (e ∙ ap ended_at q) ∙ sym (rw (ne_eqb to 0 h) refl)
+  last_there h = ap (λ (y : Source). record { reached = Line; from = 0; to = to; source = y }) e ∙ sym (rw (ne_eqb to 0 h) refl)
 
-  pub stopped_failed : {g : Got} (fine : Bool) → fine ≡ false → g ≡ no_line End x → g ≡ stopped_at fd to fine
+  pub stopped_failed : {g : Got} (fine : Bool) → fine ≡ false → g ≡ no_line End x → g ≡ stopped_at to fine
   unfolding stopped_at
   stopped_failed fine h f = none_left f ∙ sym (rw h refl)
 
-pub stopped_fine : {fd z : ℤ} {g : Got} (to : ℕ) (fine : Bool) → z ≡ fd → fine ≡ true → g ≡ last_line z to → g ≡ stopped_at fd to fine
+pub stopped_fine : {g : Got} (to : ℕ) (fine : Bool) → fine ≡ true → g ≡ last_line to → g ≡ stopped_at to fine
 unfolding stopped_at
-stopped_fine to fine q h f = f ∙ ap (λ (y : ℤ). last_line y to) q ∙ sym (rw h refl)
+stopped_fine to fine h f = f ∙ sym (rw h refl)
 
 -- ---- the loop of `to_front`: i of n bytes were moved
 

@@ -1,4 +1,5 @@
 -- What stands at one place of a run: the ways out of `no_digit` and `piece_at`, and what a byte tells. Assumes nothing.
+use Rattle.std.specs.Prelude.{if◌then◌else◌}
 use mathlib.Core.Path.{◌≡◌, refl, ap, sym, ◌∙◌}
 use mathlib.Core.Bool.{Bool, true, false}
 use mathlib.Core.List.{List}
@@ -8,7 +9,6 @@ use borrow.Author.Tests.{eq-eqb, ne_eqb, lt-ltb, le-ltb, ltb-false, leb-false}
 use lib.Dec.{ltb, leb}
 use lib.ListN.{length, get_or, drop, length-drop}
 use lib.Seq.{get_or-drop}
-use Rattle.frame.specs.Choose.{if◌then◌else◌}
 use Rattle.frame.proofs.Lists.{drop_head}
 use Rattle.text.specs.Hex.{value_of}
 use Rattle.text.specs.Words.{is_blank}

@@ -1,5 +1,5 @@
 -- A text in quotes is copied where there is room for it. Assumes nothing.
-use Rattle.std.proofs.Common.{◌≡◌, ℕ, ◌+◌, ◌<◌, ◌≤◌, List, [], length, take, sym, refl, ap, ◌∙◌, le-ltb, lt-ltb}
+use Rattle.std.proofs.Common.{◌≡◌, ℕ, ◌+◌, ◌<◌, ◌≤◌, List, length, take, refl, ap, ◌∙◌, le-ltb, lt-ltb}
 use lib.Seq.{sets, take-length}
 use Rattle.verbs.specs.declared.trouble.Trouble.TheVariants as t
 use Rattle.verbs.specs.declared.data.DataRead.TheVariants.{Got, Wrong}

@@ -1,6 +1,6 @@
 -- For callers: the bytes read are at the front of the buffer. Assumes nothing.
-use Rattle.std.proofs.Common.{◌≡◌, ℕ, ◌+◌, ◌≤◌, eqb, ltb, leb, List, [], length, get_or, take, sym, refl, ap, ◌∙◌, subst, arith, ltb-false}
-use lib.Seq.{sets, length-sets}
+use Rattle.std.proofs.Common.{◌≡◌, ℕ, ◌+◌, ◌≤◌, eqb, ltb, leb, List, [], length, get_or, take, sym, refl, ap, ◌∙◌, arith, ltb-false}
+use lib.Seq.{length-sets}
 use Rattle.frame.proofs.Bools.{if_either, if_both}
 use Rattle.frame.proofs.Stores.{part_on}
 use Rattle.text.specs.Runs.{hex_of}

@@ -1,6 +1,5 @@
 -- What a function returns, by what its callees said. Assumes nothing.
-use Rattle.std.proofs.Common.{◌≡◌, Bool, true, false, sym, ◌∙◌}
-use Rattle.frame.specs.Choose.{if◌then◌else◌}
+use Rattle.std.proofs.Common.{◌≡◌, Bool, true, false, sym, ◌∙◌, if◌then◌else◌}
 
 -- first as it was read, then as it is defined
 pub via : {A : Type 0} {x y z : A} → y ≡ z → x ≡ y → x ≡ z

@@ -1,7 +1,7 @@
 -- Words that say a number. Assumes nothing.
-use Rattle.std.proofs.Common.{◌≡◌, ℕ, suc, ◌+◌, ◌-◌, ◌<◌, ◌≤◌, List, [], ◌∷◌, length, get_or, take, drop, replicate, sym, refl, ap, ◌∙◌, add-one, arith, drop_of_length-le, take_all, drop-cons, eq-eqb, ne_eqb}
+use Rattle.std.proofs.Common.{◌≡◌, ℕ, ◌+◌, ◌-◌, ◌<◌, ◌≤◌, List, [], ◌∷◌, length, get_or, take, drop, sym, refl, ap, ◌∙◌, add-one, arith, drop_of_length-le, take_all, drop-cons, eq-eqb, ne_eqb}
 use native.Mathlib.Nat.{sub-zero}
-use lib.Seq.{sets, length-sets}
+use lib.Seq.{sets}
 use Rattle.frame.proofs.Stores.{part_on}
 use Rattle.text.specs.Runs.{hex_of}
 use Rattle.text.specs.declared.hex.HexRun.{HexRun}
@@ -9,7 +9,6 @@ use Rattle.text.specs.declared.hex.HexRun.TheVariants.{Good, Bad, Odd, Full}
 use Rattle.text.proofs.RunsWithin.{run_within, hex_inside}
 use Rattle.verbs.specs.declared.tokens.ByteRead.{ByteRead}
 use Rattle.verbs.specs.declared.tokens.ByteRead.TheVariants.{Byte, Other}
-use Rattle.verbs.specs.declared.tokens.HighRead.{HighRead}
 use Rattle.verbs.specs.Tokens.{low_first, Fits, high_by, high_in, digit_on, number_on, number_in}
 
 -- ---- bytes in hex

@@ -1,5 +1,5 @@
 -- Words by their places, and bytes from the end. Assumes nothing.
-use Rattle.std.proofs.Common.{◌≡◌, ℕ, suc, ◌+◌, ◌-◌, ◌<◌, ◌≤◌, List, [], ◌∷◌, ◌++◌, reverse, length, get_or, take, drop, sym, refl, ap, ◌∙◌, ⊎_elim, arith, length-append, get_or-append-add, le-ltb, lt-ltb, eq-eqb, ne_eqb}
+use Rattle.std.proofs.Common.{◌≡◌, ℕ, suc, ◌+◌, ◌-◌, ◌<◌, ◌≤◌, List, [], ◌∷◌, ◌++◌, reverse, length, get_or, take, drop, sym, refl, ap, ◌∙◌, ⊎_elim, arith, get_or-append-add, le-ltb, lt-ltb, eq-eqb, ne_eqb}
 use mathlib.Core.List.{reverse-cons}
 use lib.ListN.{length-reverse, get_or-append, get_or-eq_default}
 use Rattle.frame.proofs.Bools.{below_or_not}

@@ -1,7 +1,6 @@
 -- The bytes that a command sends: hex up to the end of the line, or a text in quotes. Assumes nothing.
-use Rattle.std.specs.Prelude.{◌≡◌, ℕ, ◌+◌, ◌%◌, ◌^◌, List, [], length, ◌==◌, nat_le, nat_lt, slice_index}
+use Rattle.std.specs.Prelude.{◌≡◌, ℕ, ◌+◌, ◌%◌, ◌^◌, List, [], length, ◌==◌, nat_le, nat_lt, slice_index, if◌then◌else◌}
 use Rattle.std.proofs.lemmas.List.Edits.{sets}
-use Rattle.frame.specs.Choose.{if◌then◌else◌}
 use Rattle.text.specs.Runs.{hex_of}
 use Rattle.text.specs.declared.hex.HexRun.{HexRun}
 use Rattle.text.specs.declared.hex.HexRun.TheVariants.{Good, Bad, Odd, Full}

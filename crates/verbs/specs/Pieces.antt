@@ -1,6 +1,5 @@
 -- The pieces of a command: the next word of a line as a target, a byte, a number or a mask. Assumes nothing.
-use Rattle.std.specs.Prelude.{ℕ, ◌+◌, ◌%◌, ◌^◌, Bool, true, false, not, List, [], ◌∷◌, length, replicate, ◌==◌}
-use Rattle.frame.specs.Choose.{if◌then◌else◌}
+use Rattle.std.specs.Prelude.{ℕ, ◌+◌, ◌%◌, ◌^◌, Bool, true, false, not, List, [], ◌∷◌, length, replicate, ◌==◌, if◌then◌else◌}
 use Rattle.frame.specs.Number.{num}
 use Rattle.request.specs.declared.label.Target.TheVariants as to
 use Rattle.text.specs.Words.{same_word}

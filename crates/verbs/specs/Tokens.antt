@@ -1,6 +1,5 @@
 -- Words of a line, and what they say. Assumes nothing.
-use Rattle.std.specs.Prelude.{ℕ, ◌+◌, ◌-◌, ◌*◌, ◌≤◌, Bool, not, List, [], ◌∷◌, reverse, length, take, drop, replicate, ◌==◌, nat_lt, slice_index}
-use Rattle.frame.specs.Choose.{if◌then◌else◌}
+use Rattle.std.specs.Prelude.{ℕ, ◌+◌, ◌-◌, ◌*◌, ◌≤◌, Bool, not, List, [], ◌∷◌, reverse, length, take, drop, replicate, ◌==◌, nat_lt, slice_index, if◌then◌else◌}
 use Rattle.text.specs.Words.{is_blank, solid, lead}
 use Rattle.text.specs.Runs.{hex_of}
 use Rattle.text.specs.declared.hex.HexRun.{HexRun}

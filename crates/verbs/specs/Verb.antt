@@ -1,6 +1,5 @@
 -- The words of commands; each stands beside its bytes. Assumes nothing.
-use Rattle.std.specs.Prelude.{ℕ, List, [], ◌∷◌}
-use Rattle.frame.specs.Choose.{if◌then◌else◌}
+use Rattle.std.specs.Prelude.{ℕ, List, [], ◌∷◌, if◌then◌else◌}
 use Rattle.request.specs.declared.table.Task.TheVariants as task
 use Rattle.reader.specs.declared.command.ChipTask.TheVariants as chip
 use Rattle.text.specs.Words.{same_word}

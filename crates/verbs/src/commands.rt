@@ -13,7 +13,7 @@ use reader::command::{ChipTask, Command};
 use request::label::{Family, Params, Target};
 use request::table::Task;
 
-#[derive(Drop)]
+#[derive(Clone, Copy)]
 pub enum Says {
     Ask(Command),
     Wrong(Trouble),
@@ -21,7 +21,7 @@ pub enum Says {
 
 // What a line asks: the UID of its target stands beside the command, and the bytes that it sends start at a place of the line, which is the line's end
 // where it sends none.
-#[derive(Drop)]
+#[derive(Clone, Copy)]
 pub struct Asked {
     pub says: Says,
     pub uid: [u8; 8],

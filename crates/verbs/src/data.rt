@@ -9,7 +9,7 @@ use frame::put::put_bytes;
 use text::hex::{HexRun, read_bytes};
 
 // How many bytes there are, at the front of a buffer.
-#[derive(Drop)]
+#[derive(Clone, Copy)]
 pub enum DataRead {
     Got(usize),
     Wrong(Trouble),

@@ -1,4 +1,6 @@
 // Commands as words: what a line of them asks a reader to send, and what is wrong with one that asks nothing.
+#![tactic(auto)]
+
 pub mod commands;
 pub mod data;
 pub mod pieces;

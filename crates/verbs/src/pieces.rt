@@ -10,14 +10,14 @@ use request::label::Target;
 use text::words::same_word;
 
 // Each piece has its word; what it says counts where it is fine.
-#[derive(Drop)]
+#[derive(Clone, Copy)]
 pub struct ByteFound {
     pub fine: bool,
     pub byte: u8,
     pub word: Span,
 }
 
-#[derive(Drop)]
+#[derive(Clone, Copy)]
 pub struct TargetFound {
     pub fine: bool,
     pub to: Target,
@@ -25,7 +25,7 @@ pub struct TargetFound {
     pub word: Span,
 }
 
-#[derive(Drop)]
+#[derive(Clone, Copy)]
 pub struct MaskFound {
     pub fine: bool,
     pub bits: u8,

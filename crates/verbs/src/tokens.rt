@@ -8,21 +8,21 @@ use text::hex::{HexRun, read_bytes};
 use text::words::{skip_blanks, word_end};
 
 // Places of a line: a word's first byte, and the one behind its last.
-#[derive(Drop)]
+#[derive(Clone, Copy)]
 pub struct Span {
     pub from: usize,
     pub to: usize,
 }
 
 // A word of hex, whose high byte comes first: how many bytes it has, up to eight, and these with the low one first; no bytes where it is no such word.
-#[derive(Drop)]
+#[derive(Clone, Copy)]
 pub struct HighRead {
     pub count: usize,
     pub low: [u8; 8],
 }
 
 // What a word says as a number of one byte.
-#[derive(Drop)]
+#[derive(Clone, Copy)]
 pub enum ByteRead {
     Byte(u8),
     Other,

@@ -6,7 +6,7 @@ ghost use Rattle.verbs.specs.Trouble.{column_of, what_text, expected_text, troub
 use print::put::{put_decimal, put_text};
 
 // What should stand at a place.
-#[derive(Drop)]
+#[derive(Clone, Copy)]
 pub enum What {
     Event,
     Target,
@@ -27,7 +27,7 @@ pub enum What {
     End,
 }
 
-#[derive(Drop)]
+#[derive(Clone, Copy)]
 pub enum Trouble {
     // In a column, counted from 1, stands something else.
     Expected(u64, What),

@@ -7,7 +7,7 @@ use request::table::Task;
 use text::words::same_word;
 
 // What may follow a block's number.
-#[derive(Drop)]
+#[derive(Clone, Copy)]
 pub enum Tail {
     Nothing,
     // The last of several blocks, and `lock`.
@@ -19,7 +19,7 @@ pub enum Tail {
 }
 
 // The chip's commands that take a number.
-#[derive(Drop)]
+#[derive(Clone, Copy)]
 pub enum Counted {
     Slot,
     Get,
@@ -27,7 +27,7 @@ pub enum Counted {
 }
 
 // What a command's word takes.
-#[derive(Drop)]
+#[derive(Clone, Copy)]
 pub enum Verb {
     // Sixteen slots, a family and a mask, each where it is given.
     Inventory,

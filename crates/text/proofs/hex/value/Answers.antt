@@ -1,0 +1,50 @@
+-- Each way's tests compute the value. Assumes nothing.
+use borrow.Author.Rules.{rules}
+use Rattle.frame.proofs.Tests.{tests}
+use Rattle.text.specs.Hex.{value_of}
+use Rattle.text.proofs.hex.value.Goals as goal
+
+pub returns-then-c-lt48 : goal.returns-then-c-lt48
+unfolding value_of
+returns-then-c-lt48 c =
+    search tests
+
+pub returns-then-c-lt58 : goal.returns-then-c-lt58
+unfolding value_of
+returns-then-c-lt58 c =
+    search tests
+
+pub returns-then-c-lt65 : goal.returns-then-c-lt65
+unfolding value_of
+returns-then-c-lt65 c =
+    search tests
+
+pub overflow_sub-result-then-c-lt71 : goal.overflow_sub-result-then-c-lt71
+unfolding value_of
+overflow_sub-result-then-c-lt71 c =
+    search rules
+
+pub returns-then-c-lt71 : goal.returns-then-c-lt71
+unfolding value_of
+returns-then-c-lt71 c =
+    search tests
+
+pub returns-then-c-lt97 : goal.returns-then-c-lt97
+unfolding value_of
+returns-then-c-lt97 c =
+    search tests
+
+pub overflow_sub-result-then-c-lt103 : goal.overflow_sub-result-then-c-lt103
+unfolding value_of
+overflow_sub-result-then-c-lt103 c =
+    search rules
+
+pub returns-then-c-lt103 : goal.returns-then-c-lt103
+unfolding value_of
+returns-then-c-lt103 c =
+    search tests
+
+pub returns : goal.returns
+unfolding value_of
+returns c =
+    search tests

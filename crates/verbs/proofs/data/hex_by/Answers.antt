@@ -1,0 +1,45 @@
+-- Each arm is the definition's. Assumes nothing.
+use Rattle.verbs.specs.Data.{hex_by}
+use Rattle.verbs.specs.declared.data.DataRead.TheVariants.{Wrong}
+use Rattle.std.proofs.Common.{refl, ap, rules}
+use Rattle.verbs.proofs.data.hex_by.Goals as goal
+
+pub place-requires : goal.place-requires
+unfolding hex_by
+place-requires c =
+    search rules
+
+pub expected-requires : goal.expected-requires
+unfolding hex_by
+expected-requires c =
+    search rules
+
+pub place-requires-in-Odd : goal.place-requires-in-Odd
+unfolding hex_by
+place-requires-in-Odd c =
+    search rules
+
+pub expected-requires-in-Odd : goal.expected-requires-in-Odd
+unfolding hex_by
+expected-requires-in-Odd c =
+    search rules
+
+pub returns-in-Good : goal.returns-in-Good
+unfolding hex_by
+returns-in-Good c =
+    rw c.in-Good.is refl
+
+pub returns-in-Bad : goal.returns-in-Bad
+unfolding hex_by
+returns-in-Bad c =
+    rw (c.in-Bad.is, ← c.place.ensures) (ap Wrong c.expected.ensures)
+
+pub returns-in-Odd : goal.returns-in-Odd
+unfolding hex_by
+returns-in-Odd c =
+    rw (c.in-Odd.is, ← c.place-in-Odd.ensures) (ap Wrong c.expected-in-Odd.ensures)
+
+pub returns-in-Full : goal.returns-in-Full
+unfolding hex_by
+returns-in-Full c =
+    rw c.in-Full.is refl
