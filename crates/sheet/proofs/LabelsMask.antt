@@ -1,10 +1,10 @@
 -- The bytes of a mask are the first of its 32. Assumes nothing.
 use mathlib.Core.Path.{◌≡◌, refl, ap, ◌∙◌}
-use mathlib.Core.List.{List, [], ◌∷◌}
+use mathlib.Core.List.{List, ◌∷◌}
 use Prim.Native.Nat.{ℕ, zero, suc, ◌+◌, ◌-◌, ◌/◌, ◌%◌, ◌≤◌, ◌<◌}
 use native.Mathlib.Omega.{arith}
-use lib.ListN.{length, take, drop, replicate}
-use lib.Seq.{sets, take_at, take-take}
+use lib.ListN.{take, replicate}
+use lib.Seq.{sets}
 use Rattle.frame.specs.Number.{bytes_of}
 use Rattle.frame.specs.Ending.{bytes_for}
 

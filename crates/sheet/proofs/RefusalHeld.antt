@@ -1,10 +1,10 @@
 -- What a refusal says of a tag, from what its calls tell. Assumes nothing.
-use mathlib.Core.Path.{◌≡◌, ap, ap₂, sym, ◌∙◌}
+use mathlib.Core.Path.{◌≡◌, ap, ap₂, ◌∙◌}
 use mathlib.Core.List.{List, ◌++◌}
 use Prim.Native.Nat.{ℕ, ◌-◌}
-use Rattle.rack.specs.File.{Kind, kind_of, kind_at, start_of}
+use Rattle.rack.specs.File.{kind_of}
 use Rattle.rack.specs.declared.place.Held.{Held}
-use Rattle.rack.specs.Place.{entry_of, within_entry, holder_of, IsHeld}
+use Rattle.rack.specs.Place.{entry_of, within_entry, IsHeld}
 use Rattle.print.specs.Puts.{Puts}
 use Rattle.print.proofs.Puts.{puts_by, puts_then}
 use Rattle.sheet.specs.Refusal.{entry_words, body_words, tag_words, held_words}

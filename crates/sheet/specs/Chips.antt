@@ -1,6 +1,6 @@
 -- A chip as text. Assumes nothing.
-use Rattle.std.specs.Prelude.{Bool, true, false, List, [], ◌∷◌, ◌++◌, ℕ, eqb, ltb}
-use Rattle.frame.specs.Choose.{if◌then◌else◌, gather}
+use Rattle.std.specs.Prelude.{Bool, false, List, [], ◌∷◌, ◌++◌, ℕ, eqb, ltb, if◌then◌else◌}
+use Rattle.frame.specs.Choose.{gather}
 use Rattle.chip.specs.declared.step.Chip.{Chip}
 use Rattle.chip.specs.Write.{locked}
 use Rattle.chip_body.specs.Body.{load_of, bytes_at, block_of, uid_of}

@@ -1,6 +1,6 @@
 -- A label as text. Assumes nothing.
-use Rattle.std.specs.Prelude.{Bool, not, ◌&&◌, List, [], ◌∷◌, ◌++◌, reverse, ℕ, ◌+◌, ◌/◌, ◌%◌, eqb}
-use Rattle.frame.specs.Choose.{if◌then◌else◌, gather}
+use Rattle.std.specs.Prelude.{List, [], ◌∷◌, ◌++◌, ℕ, ◌+◌, ◌/◌, ◌%◌, eqb, if◌then◌else◌}
+use Rattle.frame.specs.Choose.{gather}
 use Rattle.frame.specs.Number.{bytes_of}
 use Rattle.frame.specs.Ending.{bytes_for}
 use Rattle.label.specs.declared.step.Label.{Label}

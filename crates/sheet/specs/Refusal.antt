@@ -1,6 +1,5 @@
 -- Why a rack is refused, in words. Assumes nothing.
-use Rattle.std.specs.Prelude.{List, [], ◌++◌, ℕ, ◌-◌, eqb}
-use Rattle.frame.specs.Choose.{if◌then◌else◌}
+use Rattle.std.specs.Prelude.{List, [], ◌++◌, ℕ, ◌-◌, eqb, if◌then◌else◌}
 use Rattle.frame.specs.declared.verdict.Verdict.{Verdict}
 use Rattle.label_body.specs.declared.field.Field as label
 use Rattle.label_body.specs.declared.field.Field.TheVariants as l

@@ -1,6 +1,6 @@
 -- A rack as text. Assumes nothing.
-use Rattle.std.specs.Prelude.{List, [], ◌++◌, ℕ, eqb, length}
-use Rattle.frame.specs.Choose.{if◌then◌else◌, gather}
+use Rattle.std.specs.Prelude.{List, [], ◌++◌, ℕ, eqb, length, if◌then◌else◌}
+use Rattle.frame.specs.Choose.{gather}
 use Rattle.rack.specs.File.{Kind, Label, Chip, Other, count_of, kind_at, verdict_of}
 use Rattle.rack.specs.Facts.{body_of}
 use Rattle.print.specs.Ascii.{ascii}

@@ -1,6 +1,5 @@
 -- The words of a rack as text that a number or a test chooses. Assumes nothing.
-use Rattle.std.specs.Prelude.{Bool, List, [], ℕ, eqb, ltb}
-use Rattle.frame.specs.Choose.{if◌then◌else◌}
+use Rattle.std.specs.Prelude.{Bool, List, [], ℕ, eqb, ltb, if◌then◌else◌}
 use Rattle.print.specs.Ascii.{ascii}
 
 unfoldable pub label_state : ℕ → List ℕ

@@ -5,7 +5,7 @@ use Prim.Native.Nat.{ℕ, ◌+◌, ◌-◌, ◌≤◌}
 use native.Mathlib.Omega.{arith}
 use lib.ListN.{length, take}
 use lib.Seq.{sets}
-use Rattle.frame.specs.Number.{bytes_of, part}
+use Rattle.frame.specs.Number.{bytes_of}
 use Rattle.frame.proofs.Numbers.{length_bytes}
 use Rattle.frame.proofs.Stores.{part_on}
 

@@ -1,6 +1,5 @@
 -- The command that an event asks, so that its answer can be read. Assumes nothing.
-use Rattle.std.specs.Prelude.{true, false, ◌&&◌, List, ℕ, ◌+◌, eqb, leb}
-use Rattle.frame.specs.Choose.{if◌then◌else◌}
+use Rattle.std.specs.Prelude.{true, false, ◌&&◌, List, ℕ, ◌+◌, eqb, leb, if◌then◌else◌}
 use Rattle.request.specs.Table.{row_of}
 use Rattle.request.specs.Label.{both}
 use Rattle.request.specs.declared.label.Params.{Params}

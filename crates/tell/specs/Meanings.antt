@@ -1,6 +1,6 @@
 -- What an answer means, in words. Assumes nothing.
-use Rattle.std.specs.Prelude.{Bool, true, false, List, [], ◌++◌, ℕ, ◌+◌, ◌*◌, eqb, get_or}
-use Rattle.frame.specs.Choose.{if◌then◌else◌, all_of, gather}
+use Rattle.std.specs.Prelude.{Bool, true, false, List, [], ◌++◌, ℕ, ◌+◌, ◌*◌, eqb, get_or, if◌then◌else◌}
+use Rattle.frame.specs.Choose.{all_of, gather}
 use Rattle.frame.specs.Number.{bytes_of, part}
 use Rattle.print.specs.Ascii.{ascii}
 use Rattle.print.specs.Decimal.{decimal_text}

@@ -1,6 +1,5 @@
 -- What an event asks, in words. Assumes nothing.
-use Rattle.std.specs.Prelude.{Bool, true, false, List, ◌++◌, ℕ, ◌+◌, eqb}
-use Rattle.frame.specs.Choose.{if◌then◌else◌}
+use Rattle.std.specs.Prelude.{Bool, true, false, List, ◌++◌, ℕ, ◌+◌, eqb, if◌then◌else◌}
 use Rattle.frame.specs.Number.{bytes_of}
 use Rattle.frame.specs.Ending.{bytes_for}
 use Rattle.print.specs.Ascii.{ascii}

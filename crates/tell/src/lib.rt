@@ -1,4 +1,6 @@
 // What was asked and what an answer means, in words.
+#![tactic(auto)]
+
 pub mod command;
 pub mod line;
 pub mod meaning;

@@ -2,25 +2,22 @@
 -- Assumes nothing.
 use mathlib.Core.Path.{◌≡◌, refl, sym, ap, ap₂, subst, ◌∙◌}
 use mathlib.Core.Logic.{inl}
-use mathlib.Core.Bool.{Bool, true, false, false≢true, not}
-use mathlib.Core.List.{List, [], ◌++◌}
-use Prim.Native.Nat.{ℕ, zero, suc, ◌≤◌, ◌<◌}
+use mathlib.Core.Bool.{Bool, true, false, false≢true}
+use mathlib.Core.List.{List, []}
+use Prim.Native.Nat.{ℕ, zero, suc, ◌<◌}
 use native.Mathlib.Omega.{arith}
 use lib.Dec.{eqb, ltb}
 use lib.ListN.{length, get_or}
-use Rattle.frame.specs.Choose.{if◌then◌else◌, gather}
+use Rattle.frame.specs.Choose.{gather}
 use Rattle.frame.specs.Number.{part}
 use Rattle.frame.proofs.Bools.{if_both, if_same}
 use Rattle.request.specs.Signal.{signal_of}
-use Rattle.chip_body.specs.Body.{next_chip}
 use Rattle.chip_body.proofs.Floor.{ignores_3_4}
 use Rattle.rack.specs.File.{Kind, Label, Chip, Other, count_of, kind_at, length_at, offset_at, start_of, body_at}
 use Rattle.rack.specs.Facts.{RackFine, body_of}
 use Rattle.rack.specs.Tag.{Event, aired, next_body}
 use Rattle.event.specs.Event.{Outcome, next_rack, refusal_of, event_of}
 use Rattle.event.proofs.EventNext.{next_count, next_kind, next_offset, next_start, body_next}
-use Rattle.trace.specs.Change.{same_bytes}
-use Rattle.trace.specs.Labels.{label_line}
 use Rattle.trace.specs.Chips.{chip_told, chip_line}
 use Rattle.trace.specs.Changes.{tag_line, lines_text, changes_text}
 use Rattle.trace.specs.Calm.{calm_call, one_call, owned_by, may_differ, Only}

@@ -1,14 +1,14 @@
 -- A calm frame's step on a label is its own label with another slot and mask at most, and no line names these. Assumes nothing.
+use Rattle.std.specs.Prelude.{if◌then◌else◌}
 use mathlib.Core.Path.{◌≡◌, refl, sym, ap, ◌∙◌}
 use mathlib.Core.Logic.{inr}
-use mathlib.Core.Bool.{Bool, true, false, false≢true, not, ◌&&◌}
+use mathlib.Core.Bool.{Bool, true, false, false≢true, not}
 use mathlib.Core.List.{List, [], ◌∷◌}
 use Prim.Native.Nat.{ℕ, zero, suc, ◌+◌, ◌-◌, ◌≤◌, ◌<◌}
 use native.Mathlib.Omega.{arith}
 use borrow.Author.Tests.{eq-eqb}
 use lib.Dec.{eqb, ltb}
 use lib.ListN.{length, get_or}
-use Rattle.frame.specs.Choose.{if◌then◌else◌}
 use Rattle.frame.specs.Number.{num, bytes_of, part}
 use Rattle.frame.specs.Ending.{ends_in, ends_in_slot}
 use Rattle.frame.proofs.Bools.{if_both, if_same}
@@ -32,9 +32,9 @@ use Rattle.label.specs.Step.{perform, passed, asked, faulted, awake, called, act
 use Rattle.label_body.specs.Body.{load_of, store_of, named, worked, stepped, next_label}
 use Rattle.label_body.specs.Slots.{seek}
 use Rattle.label_body.proofs.BodyStored.{store_seek}
-use Rattle.label_body.proofs.Slots.{seek_length, seek_get_d}
+use Rattle.label_body.proofs.Slots.{seek_get_d}
 use Rattle.trace.specs.Change.{same_bytes}
-use Rattle.trace.specs.Labels.{label_told, told_line, label_line}
+use Rattle.trace.specs.Labels.{label_told, label_line}
 use Rattle.trace.specs.Calm.{calm_task, calm_call, one_task, one_call}
 
 -- ---- the step

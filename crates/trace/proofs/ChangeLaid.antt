@@ -1,16 +1,17 @@
 -- Words laid by a choice, part by part, and with a colon for the first comma. Assumes nothing.
+use Rattle.std.specs.Prelude.{if◌then◌else◌}
 use mathlib.Core.Path.{◌≡◌, refl, ap, ap₂, sym, ◌∙◌}
 use mathlib.Core.Logic.{⊎_elim}
 use mathlib.Core.Bool.{Bool, true, false, false≢true, ◌&&◌}
-use mathlib.Core.List.{List, [], ◌∷◌, ◌++◌}
-use Prim.Native.Nat.{ℕ, zero, suc, ◌+◌, ◌-◌, ◌/◌, ◌%◌, ◌≤◌, ◌<◌}
+use mathlib.Core.List.{List, [], ◌∷◌}
+use Prim.Native.Nat.{ℕ, suc, ◌+◌, ◌-◌, ◌/◌, ◌%◌, ◌≤◌, ◌<◌}
 use native.Mathlib.Numerals.{add-one}
 use native.Mathlib.Omega.{arith}
 use borrow.Author.Tests.{le-leb, lt-leb, lt-ltb, le-ltb, eq-eqb, ne_eqb}
 use lib.Dec.{eqb}
 use lib.ListN.{length, get_or, set, take, drop}
-use lib.Seq.{sets, set-set, set_comm, length-sets}
-use Rattle.frame.specs.Choose.{if◌then◌else◌, gather}
+use lib.Seq.{sets, set-set, set_comm}
+use Rattle.frame.specs.Choose.{gather}
 use Rattle.frame.proofs.Bools.{below_or_not, and_false, and_true}
 use Rattle.print.specs.Puts.{within, Puts}
 use Rattle.print.proofs.Puts.{ahead_start, ahead_end, puts_by, puts_then, puts_length, puts_inside, puts_past}

@@ -1,11 +1,10 @@
 -- The tags that answer, told one behind the other. Assumes nothing.
 use mathlib.Core.Path.{◌≡◌, refl, ap, sym, ◌∙◌}
 use mathlib.Core.Bool.{Bool, true, false, ◌||◌}
-use mathlib.Core.List.{List, []}
+use mathlib.Core.List.{List}
 use Prim.Native.Nat.{ℕ, ◌+◌, ◌≤◌, ◌<◌}
 use native.Mathlib.Numerals.{add-one}
 use lib.ListN.{length}
-use Rattle.frame.specs.Choose.{if◌then◌else◌, gather}
 use Rattle.frame.proofs.Bools.{or_right}
 use Rattle.print.specs.Puts.{within, Puts}
 use Rattle.print.proofs.Puts.{puts_by}

@@ -1,6 +1,5 @@
 -- Frames behind which nothing is told, of any tag or of all but one: they can change slots and masks alone, which no change names. Assumes nothing.
-use Rattle.std.specs.Prelude.{Bool, true, false, not, List, [], ◌≡◌, ℕ, ◌<◌, eqb}
-use Rattle.frame.specs.Choose.{if◌then◌else◌}
+use Rattle.std.specs.Prelude.{Bool, true, false, not, List, [], ◌≡◌, ℕ, ◌<◌, eqb, if◌then◌else◌}
 use Rattle.frame.specs.Number.{num, part}
 use Rattle.request.specs.Table.{row_of}
 use Rattle.request.specs.declared.table.Success.{Success}

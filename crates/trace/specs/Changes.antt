@@ -1,6 +1,6 @@
 -- What changed between a rack and the one that an event left: a line for each tag whose told fields are others. Assumes nothing.
-use Rattle.std.specs.Prelude.{List, [], ℕ, eqb}
-use Rattle.frame.specs.Choose.{if◌then◌else◌, gather}
+use Rattle.std.specs.Prelude.{List, [], ℕ, eqb, if◌then◌else◌}
+use Rattle.frame.specs.Choose.{gather}
 use Rattle.rack.specs.File.{Kind, Label, Chip, Other, count_of, kind_at}
 use Rattle.rack.specs.Facts.{body_of}
 use Rattle.trace.specs.Labels.{label_line}

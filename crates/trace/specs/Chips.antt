@@ -1,6 +1,6 @@
 -- What changed of a chip: its body before, a, and behind an event, b. Assumes nothing.
-use Rattle.std.specs.Prelude.{Bool, false, not, ◌||◌, List, [], ◌∷◌, ◌++◌, ℕ, eqb, ltb, length, get_or}
-use Rattle.frame.specs.Choose.{if◌then◌else◌, gather}
+use Rattle.std.specs.Prelude.{Bool, false, not, ◌||◌, List, [], ◌∷◌, ◌++◌, ℕ, eqb, ltb, length, get_or, if◌then◌else◌}
+use Rattle.frame.specs.Choose.{gather}
 use Rattle.frame.specs.Number.{part}
 use Rattle.chip.specs.Write.{locked}
 use Rattle.chip_body.specs.Body.{place_of, block_of}

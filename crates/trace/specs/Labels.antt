@@ -1,6 +1,6 @@
 -- What changed of a label: its body before, a, and behind an event, b. Assumes nothing.
-use Rattle.std.specs.Prelude.{Bool, true, false, not, List, [], ◌∷◌, ◌++◌, ℕ, ◌-◌, ◌/◌, ◌%◌, eqb, ltb, length, get_or}
-use Rattle.frame.specs.Choose.{if◌then◌else◌, gather}
+use Rattle.std.specs.Prelude.{Bool, true, false, not, List, [], ◌∷◌, ◌++◌, ℕ, ◌-◌, ◌/◌, ◌%◌, eqb, ltb, length, get_or, if◌then◌else◌}
+use Rattle.frame.specs.Choose.{gather}
 use Rattle.frame.specs.Number.{part}
 use Rattle.label_body.specs.Body.{blocks_of, size_of, block_at}
 use Rattle.label_body.specs.Locks.{lock_on}

@@ -1,6 +1,6 @@
 -- Who answered an event: the UIDs of the tags that say something, in the order of the entries. Assumes nothing.
-use Rattle.std.specs.Prelude.{Bool, List, [], ◌++◌, ℕ, get_or}
-use Rattle.frame.specs.Choose.{if◌then◌else◌, gather}
+use Rattle.std.specs.Prelude.{Bool, List, [], ◌++◌, ℕ, get_or, if◌then◌else◌}
+use Rattle.frame.specs.Choose.{gather}
 use Rattle.frame.specs.Number.{part}
 use Rattle.print.specs.Ascii.{ascii}
 use Rattle.print.specs.Hex.{uid_text}

@@ -1,6 +1,5 @@
 -- Whether a rack has a tag of which something holds. Assumes nothing.
-use Rattle.std.specs.Prelude.{Bool, true, false, not, ◌&&◌, ◌||◌, List, ℕ, zero, suc, eqb, get_or}
-use Rattle.frame.specs.Choose.{if◌then◌else◌}
+use Rattle.std.specs.Prelude.{Bool, true, false, not, ◌&&◌, ◌||◌, List, ℕ, zero, suc, eqb, get_or, if◌then◌else◌}
 use Rattle.label_body.specs.Slots.{uid_of, takes_part}
 use Rattle.rack.specs.File.{Kind, Label, Chip, Other, count_of, kind_at}
 use Rattle.rack.specs.Facts.{body_of}

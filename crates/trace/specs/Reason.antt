@@ -1,6 +1,5 @@
 -- Why nobody answered an event, by the rack that it left: the first that applies. Assumes nothing.
-use Rattle.std.specs.Prelude.{Bool, true, false, not, List, ℕ, eqb, ltb}
-use Rattle.frame.specs.Choose.{if◌then◌else◌}
+use Rattle.std.specs.Prelude.{Bool, not, List, ℕ, eqb, ltb, if◌then◌else◌}
 use Rattle.frame.specs.Number.{num}
 use Rattle.request.specs.declared.label.Call.{Call}
 use Rattle.request.specs.declared.label.Call.TheVariants.{Ignored, Off, On, EndOfFrame, Nobody, Inventory, Fault, Do}

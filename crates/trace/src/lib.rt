@@ -1,4 +1,6 @@
 // What an event found and left on the rack, in words: why nobody answered, who did, and what changed.
+#![tactic(auto)]
+
 pub mod calm;
 mod change;
 pub mod changes;

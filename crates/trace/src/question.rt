@@ -10,7 +10,7 @@ use rack::tag::{CHIP, LABEL};
 use request::label::Family;
 
 // What is asked of a tag.
-#[derive(Drop)]
+#[derive(Clone, Copy)]
 pub enum Ask {
     // A label; one that is not off; one in this state.
     Label,

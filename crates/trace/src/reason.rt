@@ -10,7 +10,7 @@ use request::label::{Call, Family, Request, Target};
 use request::signal::Signal;
 use request::why::{Why, WhyChip, why_ignored, why_nobody};
 
-#[derive(Drop)]
+#[derive(Clone, Copy)]
 pub enum Reason {
     // An event that asks no tag for an answer that this crate knows of.
     Other,
