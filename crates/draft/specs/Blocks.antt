@@ -1,7 +1,6 @@
 -- A line that is a block: its number, its bytes in hex or as a text in quotes, and `locked`: FORMAT, "Rack as text". Assumes nothing.
-use Rattle.std.specs.Prelude.{◌≡◌, not, List, [], ℕ, zero, suc, ◌-◌, eqb, ltb, leb, length, get_or, replicate}
+use Rattle.std.specs.Prelude.{◌≡◌, not, List, [], ℕ, zero, suc, ◌-◌, eqb, ltb, leb, length, get_or, replicate, if◌then◌else◌}
 use Rattle.std.proofs.lemmas.List.Edits.{sets}
-use Rattle.frame.specs.Choose.{if◌then◌else◌}
 use Rattle.print.specs.Ascii.{ascii}
 use Rattle.text.specs.Words.{is_blank, lowered}
 use Rattle.text.specs.Runs.{is_gap, hex_of}

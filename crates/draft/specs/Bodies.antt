@@ -1,8 +1,8 @@
 -- Bodies of tags as they are made. Every definition is total: what has no room in a buffer is left out. A kind is 1 for a label and 2 for a chip.
 -- Assumes nothing.
-use Rattle.std.specs.Prelude.{◌≡◌, Bool, true, List, [], ◌∷◌, ℕ, ◌+◌, ◌*◌, eqb, ltb, leb, length, get_or, set, replicate}
+use Rattle.std.specs.Prelude.{◌≡◌, Bool, true, List, [], ◌∷◌, ℕ, ◌+◌, ◌*◌, eqb, ltb, leb, length, get_or, set, replicate, if◌then◌else◌}
 use Rattle.std.proofs.lemmas.List.Edits.{sets}
-use Rattle.frame.specs.Choose.{if◌then◌else◌, bit}
+use Rattle.frame.specs.Choose.{bit}
 use Rattle.label.specs.declared.step.Label.{Label}
 use Rattle.label.specs.Step.{with_state, with_afi, with_dsfid, with_locks, with_slot}
 use Rattle.label_body.specs.Body as label

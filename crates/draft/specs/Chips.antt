@@ -1,6 +1,5 @@
 -- The fields of a chip: FORMAT, "Rack as text". Assumes nothing.
-use Rattle.std.specs.Prelude.{List, ℕ, set}
-use Rattle.frame.specs.Choose.{if◌then◌else◌}
+use Rattle.std.specs.Prelude.{List, ℕ, set, if◌then◌else◌}
 use Rattle.print.specs.Ascii.{ascii}
 use Rattle.text.specs.Words.{same_word}
 use Rattle.verbs.specs.declared.trouble.What.TheVariants as what

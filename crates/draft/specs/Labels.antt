@@ -1,7 +1,6 @@
 -- The fields of a label: FORMAT, "Rack as text". Assumes nothing.
-use Rattle.std.specs.Prelude.{Bool, not, List, [], ◌∷◌, ℕ, ◌+◌, ◌-◌, ◌*◌, ◌/◌, eqb, ltb, leb, length, set}
+use Rattle.std.specs.Prelude.{Bool, not, List, [], ◌∷◌, ℕ, ◌+◌, ◌-◌, ◌*◌, ◌/◌, eqb, ltb, leb, length, set, if◌then◌else◌}
 use Rattle.std.proofs.lemmas.List.Edits.{sets}
-use Rattle.frame.specs.Choose.{if◌then◌else◌}
 use Rattle.frame.specs.Number.{num}
 use Rattle.print.specs.Ascii.{ascii}
 use Rattle.text.specs.Words.{same_word}

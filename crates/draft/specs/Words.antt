@@ -1,6 +1,5 @@
 -- What the words of a rack's text say, and what is wrong with a line. Assumes nothing.
-use Rattle.std.specs.Prelude.{false, List, ◌++◌, ℕ, eqb, length, get_or}
-use Rattle.frame.specs.Choose.{if◌then◌else◌}
+use Rattle.std.specs.Prelude.{false, List, ◌++◌, ℕ, eqb, length, get_or, if◌then◌else◌}
 use Rattle.print.specs.Ascii.{ascii}
 use Rattle.print.specs.Decimal.{decimal_text}
 use Rattle.verbs.specs.declared.trouble.What.{What}

@@ -28,7 +28,7 @@ const CHIP_UID: usize = 68;
 const FIXED: usize = 79;
 
 // What a line changes of a label.
-#[derive(Drop)]
+#[derive(Clone, Copy)]
 pub enum Edit {
     State(u8),
     Afi(u8, bool),
@@ -38,7 +38,7 @@ pub enum Edit {
 }
 
 // What a line changes of a chip.
-#[derive(Drop)]
+#[derive(Clone, Copy)]
 pub enum ChipEdit {
     State(u8),
     Id(u8),

@@ -15,14 +15,14 @@ use verbs::tokens::{ByteRead, Span, find, high_in, number_in, text_of, word_from
 use verbs::trouble::What;
 
 // A mask's length and number.
-#[derive(Drop)]
+#[derive(Clone, Copy)]
 enum MaskRead {
     Mask(u8, u64),
     Other,
 }
 
 // A number less 1.
-#[derive(Drop)]
+#[derive(Clone, Copy)]
 enum Less {
     One(u8),
     Other,

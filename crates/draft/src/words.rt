@@ -8,7 +8,7 @@ use verbs::tokens::{Span, high_in, is_empty, text_of, word_from};
 use verbs::trouble::{Trouble, What, column, expected, put_trouble};
 
 // What should stand at a place of a rack's text alone.
-#[derive(Drop)]
+#[derive(Clone, Copy)]
 pub enum Part {
     Edition,
     Tag,
@@ -24,7 +24,7 @@ pub enum Part {
     NoMore,
 }
 
-#[derive(Drop)]
+#[derive(Clone, Copy)]
 pub enum Why {
     // In a column, counted from 1, stands something else.
     Part(u64, Part),
@@ -36,7 +36,7 @@ pub enum Why {
 }
 
 // What was read of a line up to a place; Sized where it said how many blocks a label has.
-#[derive(Drop)]
+#[derive(Clone, Copy)]
 pub enum Read {
     On(usize),
     Sized(usize),
@@ -44,14 +44,14 @@ pub enum Read {
 }
 
 // A byte in hex, and its word.
-#[derive(Drop)]
+#[derive(Clone, Copy)]
 pub struct Pair {
     pub fine: bool,
     pub byte: u8,
     pub word: Span,
 }
 
-#[derive(Drop)]
+#[derive(Clone, Copy)]
 pub struct Uid {
     pub fine: bool,
     pub uid: [u8; 8],

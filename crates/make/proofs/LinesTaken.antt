@@ -1,7 +1,6 @@
 -- A step along the lines of a text. Assumes nothing.
-use Rattle.std.proofs.Common.{◌≡◌, ℕ, suc, ◌+◌, ◌-◌, ◌<◌, ◌≤◌, List, [], ◌∷◌, length, ap, ◌∙◌, arith, le-leb}
+use Rattle.std.proofs.Common.{◌≡◌, ℕ, suc, ◌+◌, ◌-◌, ◌<◌, ◌≤◌, List, [], ◌∷◌, length, ap, ◌∙◌, arith, le-leb, if◌then◌else◌}
 use borrow.Author.Tests.{lt-leb}
-use Rattle.frame.specs.Choose.{if◌then◌else◌}
 use Rattle.verbs.specs.Tokens.{find_in}
 use Rattle.verbs.specs.Data.{place_of}
 use Rattle.draft.specs.declared.words.Why.{Why}

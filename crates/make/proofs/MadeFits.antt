@@ -1,6 +1,5 @@
 -- What is said to be made is well-formed, and two replies are equal. Assumes nothing.
-use Rattle.std.proofs.Common.{◌≡◌, ℕ, Bool, true, false, not, eqb, ltb, List, length, take, sym, ◌∙◌, ltb-false, eqb-true}
-use Rattle.frame.specs.Choose.{if◌then◌else◌}
+use Rattle.std.proofs.Common.{◌≡◌, ℕ, Bool, true, false, not, eqb, ltb, List, length, take, sym, ◌∙◌, ltb-false, eqb-true, if◌then◌else◌}
 use Rattle.frame.proofs.Bools.{if_either, if_both}
 use Rattle.rack.specs.File.{verdict_of}
 use Rattle.verbs.specs.Data.{place_of}

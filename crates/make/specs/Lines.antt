@@ -1,6 +1,5 @@
 -- The lines of a rack's text. Assumes nothing.
-use Rattle.std.specs.Prelude.{ℕ, zero, suc, ◌+◌, ◌-◌, Bool, true, List, [], ◌∷◌, length, take, ◌==◌, nat_le, slice_index}
-use Rattle.frame.specs.Choose.{if◌then◌else◌}
+use Rattle.std.specs.Prelude.{ℕ, zero, suc, ◌+◌, ◌-◌, Bool, true, List, [], ◌∷◌, length, take, ◌==◌, nat_le, slice_index, if◌then◌else◌}
 use Rattle.print.specs.Ascii.{ascii}
 use Rattle.text.specs.Mark.{mark_length}
 use Rattle.verbs.specs.Tokens.{span, text_of, find_in}

@@ -1,7 +1,6 @@
 -- Which rack `make` makes of a text. Assumes nothing.
-use Rattle.std.specs.Prelude.{◌≡◌, ℕ, ◌≤◌, false, not, List, ◌∷◌, length, take, ◌==◌, nat_lt}
+use Rattle.std.specs.Prelude.{◌≡◌, ℕ, ◌≤◌, false, not, List, ◌∷◌, length, take, ◌==◌, nat_lt, if◌then◌else◌}
 use Rattle.std.proofs.lemmas.List.Edits.{sets}
-use Rattle.frame.specs.Choose.{if◌then◌else◌}
 use Rattle.frame.specs.Number.{bytes_of}
 use Rattle.frame.specs.declared.verdict.Verdict.{Verdict}
 use Rattle.rack.specs.File.{verdict_of}

@@ -1,8 +1,7 @@
 -- What the lines of a text do to a rack that is made of them, tag by tag. The open tag's body stands in a buffer of its own, and goes into the rack where
 -- the next tag opens. Assumes nothing.
-use Rattle.std.specs.Prelude.{◌≡◌, ℕ, zero, suc, ◌-◌, Bool, true, false, not, List, [], ◌∷◌, ◌++◌, length, ◌==◌, nat_lt, slice_index}
+use Rattle.std.specs.Prelude.{◌≡◌, ℕ, zero, suc, ◌-◌, Bool, true, false, not, List, [], ◌∷◌, ◌++◌, length, ◌==◌, nat_lt, slice_index, if◌then◌else◌}
 use Rattle.std.proofs.lemmas.List.Edits.{sets}
-use Rattle.frame.specs.Choose.{if◌then◌else◌}
 use Rattle.frame.specs.Number.{bytes_of}
 use Rattle.print.specs.Ascii.{ascii}
 use Rattle.text.specs.Count.{is_decimal}

@@ -1,13 +1,12 @@
 // A rack from the lines of its text.
-ghost use Rattle.std.specs.Prelude.{◌≡◌, ◌-◌, ◌≤◌, length};
-ghost use Rattle.frame.specs.Choose.{if◌then◌else◌};
+ghost use Rattle.std.specs.Prelude.{◌≡◌, ◌-◌, ◌≤◌, length, if◌then◌else◌};
 ghost use Rattle.text.specs.Count.{is_decimal};
 ghost use Rattle.verbs.specs.Data.{place_of};
 ghost use Rattle.draft.specs.Bodies.{Drafts};
 ghost use Rattle.make.specs.Lines.{line_of, lines_from, opens_tag, tags_in};
 ghost use Rattle.make.specs.Tags.{Takes, Turns, over, entry_place, with_entry, closed_maker, Closes, over_at_once, opened, settled, opens};
 ghost use Rattle.make.specs.Tags.{no_edition, edition_in, begins, field_of, Tells, fields_in, measured, told, holds, about, take_line, take_next, take_lines};
-ghost use Rattle.make.specs.Made.{first_of, laid_out, judged, Makes, finished, making_of};
+ghost use Rattle.make.specs.Made.{first_of, laid_out, judged, Fits, Makes, finished, making_of};
 
 use draft::blocks::block;
 use draft::bodies::{body_length, new_tag};
@@ -26,7 +25,7 @@ use verbs::pieces::next_is;
 use verbs::tokens::{Span, find, is_empty, text_of, word_from};
 
 // What a text made: a rack of so many bytes; what is wrong with a line; a rack of so many bytes that is not well-formed.
-#[derive(Drop)]
+#[derive(Clone, Copy)]
 pub enum Made {
     Rack(usize),
     Wrong(u64, Why),
@@ -34,7 +33,7 @@ pub enum Made {
 }
 
 // How far a rack is made. The open tag, whose body stands in a buffer of its own, is of a kind, 0 before the first.
-#[derive(Drop)]
+#[derive(Clone, Copy)]
 struct Maker {
     // Lines so far, and whether the edition has been said.
     lines: u64,
@@ -49,14 +48,14 @@ struct Maker {
     held: bool,
 }
 
-#[derive(Drop)]
+#[derive(Clone, Copy)]
 enum Step {
     Go(Maker),
     Stop(u64, Why),
 }
 
 // Whether the fields of a line were read, and `blocks` among them.
-#[derive(Drop)]
+#[derive(Clone, Copy)]
 enum Fields {
     Fine(bool),
     Wrong(Why),
@@ -458,7 +457,8 @@ fn laid(m: Maker, b: &[u8], out: &mut [u8]) -> usize
 }
 
 fn judged(out: &[u8], n: usize) -> Made
-    ensures { result ≡ judged out.now n }
+    ensures fits { Fits result out.now }
+    ensures value { result ≡ judged out.now n }
 {
     if 65536 < n {
         return Made::Wrong(0, Why::Bytes);
@@ -474,7 +474,8 @@ fn judged(out: &[u8], n: usize) -> Made
 }
 
 fn finished(m: Maker, b: &[u8], out: &mut [u8]) -> Made
-    ensures { Makes (finished m b.now out.old) result out.new }
+    ensures fits { Fits result out.new }
+    ensures makes { Makes (finished m b.now out.old) result out.new }
 {
     if over(m, b) {
         return Made::Wrong(m.line, Why::Bytes);
@@ -488,7 +489,8 @@ fn finished(m: Maker, b: &[u8], out: &mut [u8]) -> Made
 
 // A rack from its text, at the front of out; b is for the body of one tag.
 pub fn make_rack(text: &[u8], b: &mut [u8], out: &mut [u8]) -> Made
-    ensures { Makes (making_of text.now b.old out.old) result out.new }
+    ensures fits { Fits result out.new }
+    ensures makes { Makes (making_of text.now b.old out.old) result out.new }
 {
     let from = after_mark(text);
     let first = first_of(count_tags(text, from));

@@ -1,0 +1,11 @@
+-- Two bits. Assumes nothing.
+use native.Mathlib.Omega.{arith}
+use Rattle.draft.proofs.bodies.afi_lock.Goals as goal
+
+pub returns-then-on : goal.returns-then-on
+returns-then-on c =
+    rw c.if-on.true
+
+pub returns : goal.returns
+returns c =
+    rw c.if-on.false (omega arith)

@@ -1,0 +1,23 @@
+-- The next word says it. Assumes nothing.
+use mathlib.Core.Path.{refl, ap}
+use borrow.Author.Tests.{not-true, not-false}
+use Rattle.draft.specs.declared.words.Read.TheVariants.{On, Wrong}
+use Rattle.draft.specs.Labels.{dsfid_field}
+use Rattle.draft.proofs.labels.dsfid.Goals as goal
+
+pub returns-then-not-p : goal.returns-then-not-p
+unfolding dsfid_field
+returns-then-not-p c =
+    rw (
+      ← c.pair_from-p.ensures,
+      not-true c.pair_from-p.result.fine c.if-not-p.true,
+    ) (record { tells = ap Wrong c.no_what.ensures; leaves = refl })
+
+pub returns : goal.returns
+unfolding dsfid_field
+returns c =
+    rw (
+      ← c.pair_from-p.ensures,
+      not-false c.pair_from-p.result.fine c.if-not-p.false,
+      ← c.next_is-locked.ensures,
+    ) (record { tells = ap On c.behind.ensures; leaves = c.change.ensures })
