@@ -1,6 +1,5 @@
 -- Turns become batches, and batches all that is handed over. Assumes nothing.
-use Rattle.std.proofs.Common.{◌≡◌, ℕ, ◌+◌, ◌-◌, ◌/◌, ◌%◌, ◌^◌, ◌<◌, ◌≤◌, Bool, true, false, not, ltb, List, [], ◌++◌, length, sym, refl, ◌∙◌, arith, take_all, le-ltb, lt-ltb}
-use Rattle.frame.specs.Choose.{if◌then◌else◌}
+use Rattle.std.proofs.Common.{◌≡◌, ℕ, ◌+◌, ◌-◌, ◌/◌, ◌%◌, ◌^◌, ◌<◌, ◌≤◌, Bool, true, false, not, ltb, List, [], ◌++◌, length, sym, refl, ◌∙◌, arith, take_all, le-ltb, lt-ltb, if◌then◌else◌}
 use Rattle.frame.specs.Number.{part}
 use Rattle.print.specs.Puts.{Puts}
 use Rattle.print.proofs.Puts.{puts_then, puts_front, puts_fits}
@@ -13,7 +12,7 @@ use Rattle.play.specs.Session.{Stand, stand, start_of, may_wait, One, More, Batc
 -- ---- one turn, from what the calls tell
 
 pub stepped : {quiet : Bool} (source : Source) (n : ℕ) (buf tags draws bytes : List ℕ) (got : Got) {count p : ℕ} {buf₁ tags₁ draws₁ bytes₁ : List ℕ}
-    {at r : ℕ} {out out₁ : List ℕ} → Follows (next_of source buf) source.fd buf buf₁ got → count ≡ (n + 1) % 2 ^ 64
+    {at r : ℕ} {out out₁ : List ℕ} → Follows (next_of source buf) buf buf₁ got → count ≡ (n + 1) % 2 ^ 64
     → p ≡ start_of count (part got.from (got.to - got.from) buf₁)
     → Turned quiet count got.reached (part (got.from + p) (got.to - (got.from + p)) buf₁) tags draws bytes at out tags₁ draws₁ bytes₁ out₁ r
     → Stepped quiet (stand source buf n tags draws bytes) (stand got.source buf₁ count tags₁ draws₁ bytes₁) at out out₁ r

@@ -1,6 +1,5 @@
 -- What stood in the answer buffer before an event does not matter to what is said of it. Assumes nothing.
-use Rattle.std.proofs.Common.{◌≡◌, ℕ, ◌≤◌, Bool, true, false, eqb, List, [], ◌∷◌, length, drop, sym, refl, ap, ◌∙◌, ap₂, take_at, le-ltb}
-use Rattle.frame.specs.Choose.{if◌then◌else◌}
+use Rattle.std.proofs.Common.{◌≡◌, ℕ, ◌≤◌, Bool, true, false, eqb, List, [], ◌∷◌, length, drop, sym, refl, ap, ◌∙◌, ap₂, take_at, le-ltb, if◌then◌else◌}
 use Rattle.frame.specs.Number.{part}
 use Rattle.rack.specs.Tag.{aired}
 use Rattle.event.specs.declared.call.Report.{Report}

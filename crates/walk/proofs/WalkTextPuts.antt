@@ -1,4 +1,5 @@
 -- What the program prints, part by part, and how long it is. Assumes nothing.
+use Rattle.std.specs.Prelude.{if◌then◌else◌}
 use mathlib.Core.Path.{◌≡◌, refl, ap, sym, ◌∙◌}
 use mathlib.Core.Bool.{Bool, true, false}
 use mathlib.Core.List.{List, [], ◌∷◌, ◌++◌}
@@ -7,10 +8,9 @@ use native.Mathlib.Omega.{arith}
 use lib.Dec.{eqb}
 use lib.ListN.{length, drop, take, length-append, length-drop}
 use lib.Seq.{drop-drop, length-take-le}
-use Rattle.frame.specs.Choose.{if◌then◌else◌}
 use Rattle.frame.specs.Number.{part}
 use Rattle.print.specs.Ascii.{ascii}
-use Rattle.print.specs.Decimal.{decimal_text, number_line}
+use Rattle.print.specs.Decimal.{number_line}
 use Rattle.print.specs.Hex.{uid_text}
 use Rattle.print.proofs.DecimalDigits.{decimal_short}
 use Rattle.print.proofs.HexPairs.{length_uid}

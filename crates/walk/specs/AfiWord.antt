@@ -1,6 +1,5 @@
 -- The word behind `--afi`: two hex digits, in either case, and nothing else. Assumes nothing.
-use Rattle.std.specs.Prelude.{List, ℕ, ◌+◌, ◌*◌, eqb, length, get_or}
-use Rattle.frame.specs.Choose.{if◌then◌else◌}
+use Rattle.std.specs.Prelude.{List, ℕ, ◌+◌, ◌*◌, eqb, length, get_or, if◌then◌else◌}
 use Rattle.text.specs.Hex.{value_of}
 use Rattle.text.specs.declared.hex.Nibble.{Nibble}
 use Rattle.text.specs.declared.hex.Nibble.TheVariants.{Digit, Other}

@@ -1,6 +1,5 @@
 -- Document 01, "Walk": what the program prints. Assumes nothing.
-use Rattle.std.specs.Prelude.{List, [], ◌∷◌, ◌++◌, ℕ, zero, suc, eqb, take, drop, replicate}
-use Rattle.frame.specs.Choose.{if◌then◌else◌}
+use Rattle.std.specs.Prelude.{List, [], ◌∷◌, ◌++◌, ℕ, zero, suc, eqb, take, drop, replicate, if◌then◌else◌}
 use Rattle.inventory.specs.Walk.{walk_of}
 use Rattle.inventory.specs.declared.walk.Walked.{Walked}
 use Rattle.request.specs.declared.label.Family.{Family}
