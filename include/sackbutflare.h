@@ -1,6 +1,6 @@
 /* sackbutflare.h - a rack of RFID tags to try a station on, for C and C++.
  *
- * Link with target/staticlib/libstation.a, which `rt staticlib station` writes for x86-64.
+ * Link with crates/station/out/libstation.a, which `rt lib` in crates/station writes for x86-64.
  * Bytes go as a pointer and a length; a null pointer with length 0 is fine. In every result `number` is 0 for a success, and else the
  * number of the refusal: then all the rest of the result is 0 and no byte handed over has changed.
  * No two of the buffers handed to one call may overlap, and no other thread may change one meanwhile.

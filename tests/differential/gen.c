@@ -132,14 +132,7 @@ static void new_family(struct gen *g, struct family *f)
     f->afi = gen_byte(g);
 }
 
-/* A mask that is another in one of its bits, often in one of the highest eight: these stand above the whole bytes. */
-static uint64_t near_mask(struct gen *g, uint64_t mask, unsigned bits)
-{
-    unsigned among = bits > 8 && gen_chance(g, 50) ? 8 : bits;
-    return mask ^ (uint64_t)1 << (bits - 1 - gen_below(g, among));
-}
-
-/* A running slot: the common one, one that waits for this UID or nearly, or any. */
+/* A running slot: the common one, one that waits for this UID, or any. */
 static void run_slot(struct gen *g, const struct family *f, uint64_t uid, uint8_t *body)
 {
     unsigned slot = gen_below(g, 16), bits = gen_below(g, 61);
@@ -153,8 +146,6 @@ static void run_slot(struct gen *g, const struct family *f, uint64_t uid, uint8_
         mask = uid;
         slot = (unsigned)((uid >> bits) & 15u);
         slot = gen_chance(g, 60) ? (slot + 15) % 16 : slot;
-        if (bits > 0 && gen_chance(g, 15))
-            mask = near_mask(g, mask, bits);
     } else if (how == 2) {
         mask = uid;
     }
@@ -695,8 +686,8 @@ static size_t put_mask(struct gen *g, uint64_t uid, unsigned bits, uint8_t *at)
     size_t bytes = (bits + 7) / 8;
     uint64_t mask = uid;
     fill(g, at, bytes);
-    if (bits > 0 && bits <= 64 && gen_chance(g, 20))
-        mask = near_mask(g, mask, bits);
+    if (bits > 0 && bits <= 64 && gen_chance(g, 15))
+        mask ^= (uint64_t)1 << gen_below(g, bits);
     if (gen_chance(g, 50))
         mask &= ref_low_bits(bits);
     else if (gen_chance(g, 50))
