@@ -1,54 +1,8 @@
 -- Each way out is a law of AnswerWays; the search finds it, and its premises among the facts.
 -- Assumes nothing.
 use Rattle.answer.specs.Answer.{chip_reading}
-use borrow.Author.Rules.{rules}
 use Rattle.answer.proofs.AnswerWays.{ways}
 use Rattle.answer.proofs.reading.chip_reading.Goals as goal
-
-pub any_id-requires : goal.any_id-requires
-unfolding chip_reading
-any_id-requires c =
-    search rules
-
-pub slot_id-requires : goal.slot_id-requires
-unfolding chip_reading
-slot_id-requires c =
-    search rules
-
-pub slot_id-requires-in-Marker : goal.slot_id-requires-in-Marker
-unfolding chip_reading
-slot_id-requires-in-Marker c =
-    search rules
-
-pub this_id-requires : goal.this_id-requires
-unfolding chip_reading
-this_id-requires c =
-    search rules
-
-pub refused-requires : goal.refused-requires
-unfolding chip_reading
-refused-requires c =
-    search rules
-
-pub refused-requires-in-Reset : goal.refused-requires-in-Reset
-unfolding chip_reading
-refused-requires-in-Reset c =
-    search rules
-
-pub word-requires : goal.word-requires
-unfolding chip_reading
-word-requires c =
-    search rules
-
-pub chip_uid-requires : goal.chip_uid-requires
-unfolding chip_reading
-chip_uid-requires c =
-    search rules
-
-pub refused-requires-in-Write : goal.refused-requires-in-Write
-unfolding chip_reading
-refused-requires-in-Write c =
-    search rules
 
 pub returns-in-Initiate : goal.returns-in-Initiate
 unfolding chip_reading

@@ -1,74 +1,28 @@
 -- A ladder of tests, in the order of the definition.
 -- Assumes nothing.
-use borrow.Author.Rules.{rules}
 use Rattle.frame.proofs.Tests.{tests}
 use Rattle.answer.specs.Answer.{block_of}
 use Rattle.answer.proofs.reading.locked_block.Goals as goal
-
-pub refused-requires : goal.refused-requires
-unfolding block_of
-refused-requires c =
-    search rules
 
 pub returns-then-c-lt3 : goal.returns-then-c-lt3
 unfolding block_of
 returns-then-c-lt3 c =
     search tests
 
-pub refused-requires-then-c-gt34 : goal.refused-requires-then-c-gt34
-unfolding block_of
-refused-requires-then-c-gt34 c =
-    search rules
-
 pub returns-then-c-gt34 : goal.returns-then-c-gt34
 unfolding block_of
 returns-then-c-gt34 c =
     search tests
-
-pub bounds-c-0 : goal.bounds-c-0
-unfolding block_of
-bounds-c-0 c =
-    search rules
-
-pub refused-requires-then-c-ne0 : goal.refused-requires-then-c-ne0
-unfolding block_of
-refused-requires-then-c-ne0 c =
-    search rules
 
 pub returns-then-c-ne0 : goal.returns-then-c-ne0
 unfolding block_of
 returns-then-c-ne0 c =
     search tests
 
-pub bounds-c-1 : goal.bounds-c-1
-unfolding block_of
-bounds-c-1 c =
-    search rules
-
-pub refused-requires-then-c-gt1 : goal.refused-requires-then-c-gt1
-unfolding block_of
-refused-requires-then-c-gt1 c =
-    search rules
-
 pub returns-then-c-gt1 : goal.returns-then-c-gt1
 unfolding block_of
 returns-then-c-gt1 c =
     search tests
-
-pub bounds-c-1-2 : goal.bounds-c-1-2
-unfolding block_of
-bounds-c-1-2 c =
-    search rules
-
-pub overflow_sub-c : goal.overflow_sub-c
-unfolding block_of
-overflow_sub-c c =
-    search rules
-
-pub plain-requires : goal.plain-requires
-unfolding block_of
-plain-requires c =
-    search rules
 
 pub returns : goal.returns
 unfolding block_of

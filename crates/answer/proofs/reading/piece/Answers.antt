@@ -1,6 +1,5 @@
 -- A ladder of tests, in the order of the definition; no bytes at all are a law.
 -- Assumes nothing.
--- no more bytes than there are
 use Prim.Native.Nat.{◌+◌, ◌-◌, ◌*◌, ◌/◌, ◌≤◌}
 use native.Mathlib.Omega.{arith}
 use lib.ListN.{length}
@@ -11,6 +10,7 @@ use Rattle.answer.proofs.AnswerPieces.{piece_empty, piece_room}
 use Rattle.answer.proofs.reading.piece.Goals as goal
 use Rattle.answer.proofs.reading.piece.Goals.{Else-c-lt1}
 
+-- no more bytes than there are
 room : (c : Else-c-lt1) → 1 + c.args.count * ((length c.args.c.now - 1) / c.args.count) ≤ length c.args.c.now
 room c =
     piece_room c.args.count c.args.c.now c.if-c-lt1.false
@@ -20,25 +20,10 @@ unfolding piece_of
 returns-then-c-lt1 c =
     search (rules, piece_empty)
 
-pub bounds-c-0 : goal.bounds-c-0
-unfolding piece_of
-bounds-c-0 c =
-    search rules
-
 pub returns-then-c-ne0 : goal.returns-then-c-ne0
 unfolding piece_of
 returns-then-c-ne0 c =
     search tests
-
-pub overflow_sub-each : goal.overflow_sub-each
-unfolding piece_of
-overflow_sub-each c =
-    search rules
-
-pub nonzero_div-each : goal.nonzero_div-each
-unfolding piece_of
-nonzero_div-each c =
-    search rules
 
 pub overflow_mul-count : goal.overflow_mul-count
 unfolding piece_of

@@ -1,44 +1,18 @@
 -- A ladder of tests, in the order of the definition.
 -- Assumes nothing.
-use borrow.Author.Rules.{rules}
 use Rattle.frame.proofs.Tests.{tests}
 use Rattle.answer.specs.Answer.{chip_reading}
 use Rattle.answer.proofs.reading.this_id.Goals as goal
-
-pub refused-requires : goal.refused-requires
-unfolding chip_reading
-refused-requires c =
-    search rules
 
 pub returns-then-c-ne1 : goal.returns-then-c-ne1
 unfolding chip_reading
 returns-then-c-ne1 c =
     search tests
 
-pub bounds-c-0 : goal.bounds-c-0
-unfolding chip_reading
-bounds-c-0 c =
-    search rules
-
-pub refused-requires-then-c-id : goal.refused-requires-then-c-id
-unfolding chip_reading
-refused-requires-then-c-id c =
-    search rules
-
 pub returns-then-c-id : goal.returns-then-c-id
 unfolding chip_reading
 returns-then-c-id c =
     search tests
-
-pub bounds-c-0-2 : goal.bounds-c-0-2
-unfolding chip_reading
-bounds-c-0-2 c =
-    search rules
-
-pub plain-requires : goal.plain-requires
-unfolding chip_reading
-plain-requires c =
-    search rules
 
 pub returns : goal.returns
 unfolding chip_reading

@@ -2,7 +2,6 @@
 -- Assumes nothing.
 use borrow.Author.Tests.{eq-eqb}
 use Rattle.chip.specs.Write.{reloads}
-use borrow.Author.Rules.{rules}
 use Rattle.frame.proofs.Tests.{tests}
 use Rattle.chip.proofs.step.sets_reload.Goals as goal
 
@@ -10,11 +9,6 @@ pub returns-then-a-ne6 : goal.returns-then-a-ne6
 unfolding reloads
 returns-then-a-ne6 c =
     search tests
-
-pub count_down-requires : goal.count_down-requires
-unfolding reloads
-count_down-requires c =
-    search rules
 
 pub returns : goal.returns
 unfolding reloads

@@ -1,7 +1,6 @@
 -- A ladder of tests on the address, in the order of the definition.
 -- Assumes nothing.
 use Rattle.chip.specs.Write.{written}
-use borrow.Author.Rules.{rules}
 use Rattle.frame.proofs.Tests.{tests}
 use Rattle.chip.proofs.step.write_rule.Goals as goal
 
@@ -15,11 +14,6 @@ unfolding written
 returns-then-a-lt5 c =
     search tests
 
-pub count_down-requires : goal.count_down-requires
-unfolding written
-count_down-requires c =
-    search rules
-
 pub returns-then-a-lt7 : goal.returns-then-a-lt7
 unfolding written
 returns-then-a-lt7 c =
@@ -29,11 +23,6 @@ pub returns-then-a-lt16 : goal.returns-then-a-lt16
 unfolding written
 returns-then-a-lt16 c =
     search tests
-
-pub lock_down-requires : goal.lock_down-requires
-unfolding written
-lock_down-requires c =
-    search rules
 
 pub returns : goal.returns
 unfolding written

@@ -8,18 +8,12 @@ use Rattle.frame.specs.CheckSum.{framed}
 use Rattle.chip_body.specs.Answer.{answer_frame}
 use Rattle.chip_body.proofs.BodyShapes.{place_fits}
 use Rattle.chip_body.proofs.AnswerFrames.{answered, framed_part, framed_one, id_room, block_room, uid_room}
-use borrow.Author.Rules.{rules}
 use Rattle.chip_body.proofs.answer.write_answer.Goals as goal
 
 pub say_id-requires : goal.say_id-requires
 unfolding answer_frame
 say_id-requires c =
     id_room _ _ _ c.requires.1 _ c.in-Id.is
-
-pub place-at-requires : goal.place-at-requires
-unfolding answer_frame
-place-at-requires c =
-    search rules
 
 pub seal_part-requires : goal.seal_part-requires
 unfolding answer_frame
@@ -39,22 +33,12 @@ unfolding answer_frame
 returns-in-Silent c =
     rw c.in-Silent.is (refl, refl)
 
-pub shape_of-out-in-Id : goal.shape_of-out-in-Id
-unfolding answer_frame
-shape_of-out-in-Id c =
-    search rules
-
 pub returns-in-Id : goal.returns-in-Id
 unfolding answer_frame
 returns-in-Id c =
     let a = c.args in
     let v = c.in-Id in
     answered (framed (v.id ∷ [])) (answer_frame a.a a.b.now) a.out.now c.say_id.ensures (rw v.is) (framed_one v.id)
-
-pub shape_of-out-in-Block : goal.shape_of-out-in-Block
-unfolding answer_frame
-shape_of-out-in-Block c =
-    search rules
 
 pub returns-in-Block : goal.returns-in-Block
 unfolding answer_frame
@@ -65,11 +49,6 @@ returns-in-Block c =
     let b = a.b.now in
     answered (framed (part p 4 b)) (answer_frame a.a b) a.out.now c.seal_part.ensures (rw (c.place-at.ensures, v.is))
     (framed_part p 4 a.b.now (omega (arith, c.place-at.ensures, place_fits v.n, c.requires.0)))
-
-pub shape_of-out-in-Uid : goal.shape_of-out-in-Uid
-unfolding answer_frame
-shape_of-out-in-Uid c =
-    search rules
 
 pub returns-in-Uid : goal.returns-in-Uid
 unfolding answer_frame

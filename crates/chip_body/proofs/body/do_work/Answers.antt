@@ -4,7 +4,6 @@ use mathlib.Core.Path.{◌∙◌}
 use native.Mathlib.Omega.{arith}
 use Rattle.chip_body.specs.Body.{worked}
 use Rattle.chip_body.proofs.BodyShapes.{place_fits}
-use borrow.Author.Rules.{rules}
 use Rattle.chip_body.proofs.body.do_work.Goals as goal
 
 pub returns-in_default : goal.returns-in_default
@@ -12,25 +11,10 @@ unfolding worked
 returns-in_default c =
     rw c.in_default.is
 
-pub place-at-requires : goal.place-at-requires
-unfolding worked
-place-at-requires c =
-    search rules
-
-pub overflow_cast-v : goal.overflow_cast-v
-unfolding worked
-overflow_cast-v c =
-    search rules
-
 pub put_number-requires : goal.put_number-requires
 unfolding worked
 put_number-requires c =
     omega (arith, c.place-at.ensures, place_fits c.in-Put.a, c.requires)
-
-pub shape_of-b : goal.shape_of-b
-unfolding worked
-shape_of-b c =
-    search rules
 
 pub returns : goal.returns
 unfolding worked

@@ -3,18 +3,12 @@
 use mathlib.Core.Path.{◌∙◌}
 use Rattle.chip_body.specs.Body.{named}
 use Rattle.chip_body.proofs.BodyShapes.{unnamed_not}
-use borrow.Author.Rules.{rules}
 use Rattle.chip_body.proofs.body.named_block.Goals as goal
 
 pub returns-in_default : goal.returns-in_default
 unfolding named
 returns-in_default c =
     unnamed_not c.args.order c.args.b.now c.in_default.not-Write
-
-pub block_of-requires : goal.block_of-requires
-unfolding named
-block_of-requires c =
-    search rules
 
 pub returns : goal.returns
 unfolding named

@@ -1,14 +1,8 @@
 -- One test.
 -- Assumes nothing.
 use Rattle.chip_body.specs.Body.{place_of}
-use borrow.Author.Rules.{rules}
 use Rattle.frame.proofs.Tests.{tests}
 use Rattle.chip_body.proofs.body.place.Goals as goal
-
-pub overflow_mul-result : goal.overflow_mul-result
-unfolding place_of
-overflow_mul-result c =
-    search rules
 
 pub returns-then-a-lt16 : goal.returns-then-a-lt16
 unfolding place_of

@@ -3,28 +3,7 @@
 use mathlib.Core.Path.{◌∙◌, ap}
 use Rattle.chip.specs.declared.step.Stepped.{Stepped}
 use Rattle.chip_body.specs.Body.{said_chip, next_chip, worked, store_of}
-use borrow.Author.Rules.{rules}
 use Rattle.chip_body.proofs.body.step.Goals as goal
-
-pub act_on-stepped-requires : goal.act_on-stepped-requires
-unfolding said_chip next_chip
-act_on-stepped-requires c =
-    search rules
-
-pub store-requires : goal.store-requires
-unfolding said_chip next_chip
-store-requires c =
-    search rules
-
-pub do_work-requires : goal.do_work-requires
-unfolding said_chip next_chip
-do_work-requires c =
-    search rules
-
-pub shape_of-b : goal.shape_of-b
-unfolding said_chip next_chip
-shape_of-b c =
-    search rules
 
 pub returns : goal.returns
 unfolding said_chip next_chip

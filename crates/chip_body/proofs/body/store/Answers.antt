@@ -4,7 +4,6 @@ use mathlib.Core.Path.{refl}
 use native.Mathlib.Omega.{arith}
 use lib.ListN.{length-set}
 use Rattle.chip_body.specs.Body.{store_of}
-use borrow.Author.Rules.{rules}
 use Rattle.chip_body.proofs.body.store.Goals as goal
 
 pub bounds-b-77 : goal.bounds-b-77
@@ -12,16 +11,6 @@ bounds-b-77 c = simp length-set (omega arith)
 
 pub bounds-b-78 : goal.bounds-b-78
 bounds-b-78 c = simp length-set (omega arith)
-
-pub bounds-b-76 : goal.bounds-b-76
-unfolding store_of
-bounds-b-76 c =
-    search rules
-
-pub shape_of-b : goal.shape_of-b
-unfolding store_of
-shape_of-b c =
-    search rules
 
 pub returns : goal.returns
 unfolding store_of

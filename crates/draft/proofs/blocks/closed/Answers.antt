@@ -3,7 +3,6 @@ use mathlib.Core.Path.{ap}
 use borrow.Author.Tests.{le-leb, lt-leb}
 use Rattle.draft.specs.declared.words.Read.TheVariants.{Wrong}
 use Rattle.draft.specs.Blocks.{closed}
-use borrow.Author.Rules.{rules}
 use Rattle.draft.proofs.blocks.closed.Goals as goal
 
 pub returns-then-line-at : goal.returns-then-line-at
@@ -11,25 +10,10 @@ unfolding closed
 returns-then-line-at c =
     rw (le-leb _ _ c.if-line-at.true)
 
-pub byte_at-requires : goal.byte_at-requires
-unfolding closed
-byte_at-requires c =
-    search rules
-
-pub is_blank-requires : goal.is_blank-requires
-unfolding closed
-is_blank-requires c =
-    search rules
-
 pub returns-then-is_blank : goal.returns-then-is_blank
 unfolding closed
 returns-then-is_blank c =
     rw (lt-leb _ _ c.if-line-at.false, ← c.byte_at.ensures, ← c.is_blank.ensures, c.if-is_blank.true)
-
-pub no_what-requires : goal.no_what-requires
-unfolding closed
-no_what-requires c =
-    search rules
 
 pub returns : goal.returns
 unfolding closed

@@ -2,48 +2,7 @@
 use mathlib.Core.Path.{ap}
 use Rattle.draft.specs.declared.words.Read.TheVariants.{Wrong}
 use Rattle.draft.specs.Blocks.{hex_by}
-use borrow.Author.Rules.{rules}
 use Rattle.draft.proofs.blocks.hex_by.Goals as goal
-
-pub place-requires : goal.place-requires
-unfolding hex_by
-place-requires c =
-    search rules
-
-pub stopped-requires : goal.stopped-requires
-unfolding hex_by
-stopped-requires c =
-    search rules
-
-pub place-requires-in-Odd : goal.place-requires-in-Odd
-unfolding hex_by
-place-requires-in-Odd c =
-    search rules
-
-pub no_what-requires : goal.no_what-requires
-unfolding hex_by
-no_what-requires c =
-    search rules
-
-pub rest_of-requires : goal.rest_of-requires
-unfolding hex_by
-rest_of-requires c =
-    search rules
-
-pub place_of-requires : goal.place_of-requires
-unfolding hex_by
-place_of-requires c =
-    search rules
-
-pub place-requires-in-Full : goal.place-requires-in-Full
-unfolding hex_by
-place-requires-in-Full c =
-    search rules
-
-pub no_part-requires : goal.no_part-requires
-unfolding hex_by
-no_part-requires c =
-    search rules
 
 pub returns-in-Good : goal.returns-in-Good
 unfolding hex_by

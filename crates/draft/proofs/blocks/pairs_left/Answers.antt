@@ -2,13 +2,7 @@
 use native.Mathlib.Omega.{arith}
 use borrow.Author.Tests.{eq-eqb, ne_eqb}
 use Rattle.draft.specs.Blocks.{pairs_left}
-use borrow.Author.Rules.{rules}
 use Rattle.draft.proofs.blocks.pairs_left.Goals as goal
-
-pub lower-requires : goal.lower-requires
-unfolding pairs_left
-lower-requires c =
-    search rules
 
 pub returns-then-lower-eq120 : goal.returns-then-lower-eq120
 unfolding pairs_left
@@ -19,11 +13,6 @@ pub returns-then-n-eq0 : goal.returns-then-n-eq0
 unfolding pairs_left
 returns-then-n-eq0 c =
     rw (← c.lower.ensures, ne_eqb _ _ c.if-lower-eq120.false) (omega arith)
-
-pub overflow_sub-result : goal.overflow_sub-result
-unfolding pairs_left
-overflow_sub-result c =
-    search rules
 
 pub returns : goal.returns
 unfolding pairs_left

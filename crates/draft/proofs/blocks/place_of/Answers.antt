@@ -9,26 +9,6 @@ unfolding pair_place
 loop-left-init c =
     refl
 
-pub overflow_sub-left : goal.overflow_sub-left
-unfolding pair_place
-overflow_sub-left c =
-    search rules
-
-pub byte_at-c-requires : goal.byte_at-c-requires
-unfolding pair_place
-byte_at-c-requires c =
-    search rules
-
-pub is_gap-requires : goal.is_gap-requires
-unfolding pair_place
-is_gap-requires c =
-    search rules
-
-pub place-at-requires : goal.place-at-requires
-unfolding pair_place
-place-at-requires c =
-    search rules
-
 pub loop-left-smaller-then-is_gap : goal.loop-left-smaller-then-is_gap
 unfolding pair_place
 loop-left-smaller-then-is_gap c =
@@ -45,26 +25,6 @@ unfolding pair_place
 returns-then-more-eq0 c =
     pair_here _ _ _ _ c.loop-left-test.true c.loop-left.invariant c.byte_at-c.ensures c.is_gap.ensures
     c.if-is_gap.false c.if-more-eq0.true
-
-pub place-requires : goal.place-requires
-unfolding pair_place
-place-requires c =
-    search rules
-
-pub byte_at-requires : goal.byte_at-requires
-unfolding pair_place
-byte_at-requires c =
-    search rules
-
-pub pairs_left-more-requires : goal.pairs_left-more-requires
-unfolding pair_place
-pairs_left-more-requires c =
-    search rules
-
-pub place-at-requires-in-loop-left : goal.place-at-requires-in-loop-left
-unfolding pair_place
-place-at-requires-in-loop-left c =
-    search rules
 
 pub loop-left-smaller : goal.loop-left-smaller
 unfolding pair_place

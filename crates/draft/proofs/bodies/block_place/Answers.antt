@@ -1,7 +1,6 @@
 -- Each test is the definition's. Assumes nothing.
 use borrow.Author.Tests.{lt-ltb, le-ltb, eq-eqb, ne_eqb}
 use Rattle.draft.specs.Bodies.{block_place}
-use borrow.Author.Rules.{rules}
 use Rattle.draft.proofs.bodies.block_place.Goals as goal
 
 pub returns-then-b-lt32 : goal.returns-then-b-lt32
@@ -9,20 +8,10 @@ unfolding block_place
 returns-then-b-lt32 c =
     rw (lt-ltb _ _ c.if-b-lt32.true)
 
-pub place-requires : goal.place-requires
-unfolding block_place
-place-requires c =
-    search rules
-
 pub returns-then-kind-eq-LABEL : goal.returns-then-kind-eq-LABEL
 unfolding block_place
 returns-then-kind-eq-LABEL c =
     rw (le-ltb _ _ c.if-b-lt32.false, eq-eqb _ _ c.if-kind-eq-LABEL.true) c.place.ensures
-
-pub place-requires-2 : goal.place-requires-2
-unfolding block_place
-place-requires-2 c =
-    search rules
 
 pub returns : goal.returns
 unfolding block_place

@@ -4,21 +4,6 @@ use Rattle.draft.specs.Bodies.{block_size}
 use borrow.Author.Rules.{rules}
 use Rattle.draft.proofs.bodies.block_size.Goals as goal
 
-pub byte_at-requires : goal.byte_at-requires
-unfolding block_size
-byte_at-requires c =
-    search rules
-
-pub overflow_cast-result : goal.overflow_cast-result
-unfolding block_size
-overflow_cast-result c =
-    search rules
-
-pub overflow_add-result : goal.overflow_add-result
-unfolding block_size
-overflow_add-result c =
-    search rules
-
 pub returns-then-kind-eq-LABEL : goal.returns-then-kind-eq-LABEL
 unfolding block_size
 returns-then-kind-eq-LABEL c =

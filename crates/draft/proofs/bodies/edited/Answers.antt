@@ -1,6 +1,5 @@
 -- Each arm is the definition's. Assumes nothing.
 use Rattle.draft.specs.Bodies.{edited}
-use borrow.Author.Rules.{rules}
 use Rattle.draft.proofs.bodies.edited.Goals as goal
 
 pub returns-in-State : goal.returns-in-State
@@ -8,20 +7,10 @@ unfolding edited
 returns-in-State c =
     rw c.in-State.is
 
-pub afi_lock-requires : goal.afi_lock-requires
-unfolding edited
-afi_lock-requires c =
-    search rules
-
 pub returns-in-Afi : goal.returns-in-Afi
 unfolding edited
 returns-in-Afi c =
     rw (c.in-Afi.is, c.afi_lock.ensures)
-
-pub dsfid_lock-requires : goal.dsfid_lock-requires
-unfolding edited
-dsfid_lock-requires c =
-    search rules
 
 pub returns-in-Dsfid : goal.returns-in-Dsfid
 unfolding edited

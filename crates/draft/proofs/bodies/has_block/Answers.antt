@@ -2,13 +2,7 @@
 use borrow.Author.Tests.{eq-eqb}
 use Rattle.frame.proofs.Tests.{tests}
 use Rattle.draft.specs.Bodies.{has_block}
-use borrow.Author.Rules.{rules}
 use Rattle.draft.proofs.bodies.has_block.Goals as goal
-
-pub byte_at-requires : goal.byte_at-requires
-unfolding has_block
-byte_at-requires c =
-    search rules
 
 pub returns-then-kind-eq-LABEL : goal.returns-then-kind-eq-LABEL
 unfolding has_block

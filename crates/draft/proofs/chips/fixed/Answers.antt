@@ -2,28 +2,7 @@
 use mathlib.Core.Path.{refl, ap}
 use Rattle.draft.specs.declared.words.Read.TheVariants.{Wrong}
 use Rattle.draft.specs.Chips.{fixed_field}
-use borrow.Author.Rules.{rules}
 use Rattle.draft.proofs.chips.fixed.Goals as goal
-
-pub word_from-w-requires : goal.word_from-w-requires
-unfolding fixed_field
-word_from-w-requires c =
-    search rules
-
-pub text_of-requires : goal.text_of-requires
-unfolding fixed_field
-text_of-requires c =
-    search rules
-
-pub yes_or_no-s-requires : goal.yes_or_no-s-requires
-unfolding fixed_field
-yes_or_no-s-requires c =
-    search rules
-
-pub no_part-requires : goal.no_part-requires
-unfolding fixed_field
-no_part-requires c =
-    search rules
 
 pub returns-in_default : goal.returns-in_default
 unfolding fixed_field
@@ -34,16 +13,6 @@ returns-in_default c =
       ← c.yes_or_no-s.ensures,
       c.in_default.is,
     ) (record { tells = ap Wrong c.no_part.ensures; leaves = refl })
-
-pub set_fixed-requires : goal.set_fixed-requires
-unfolding fixed_field
-set_fixed-requires c =
-    search rules
-
-pub shape_of-b : goal.shape_of-b
-unfolding fixed_field
-shape_of-b c =
-    search rules
 
 pub returns : goal.returns
 unfolding fixed_field

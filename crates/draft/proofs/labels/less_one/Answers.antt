@@ -1,13 +1,7 @@
 -- Each test is the definition's. Assumes nothing.
 use borrow.Author.Tests.{lt-ltb, le-ltb}
 use Rattle.draft.specs.Labels.{less_by, less_one}
-use borrow.Author.Rules.{rules}
 use Rattle.draft.proofs.labels.less_one.Goals as goal
-
-pub count_in-n-requires : goal.count_in-n-requires
-unfolding less_by less_one
-count_in-n-requires c =
-    search rules
 
 pub returns-in_default : goal.returns-in_default
 unfolding less_by less_one
@@ -28,11 +22,6 @@ pub returns-then-v-gt256 : goal.returns-then-v-gt256
 unfolding less_by less_one
 returns-then-v-gt256 c =
     rw (← c.count_in-n.ensures, c.in-Count.is, le-ltb _ _ c.if-v-lt1.false, le-ltb _ _ c.if-most-v.false, lt-ltb _ _ c.if-v-gt256.true)
-
-pub overflow_cast-result : goal.overflow_cast-result
-unfolding less_by less_one
-overflow_cast-result c =
-    search rules
 
 pub returns : goal.returns
 unfolding less_by less_one

@@ -3,18 +3,7 @@ use mathlib.Core.Path.{refl, ap}
 use borrow.Author.Tests.{not-true, not-false}
 use Rattle.draft.specs.declared.words.Read.TheVariants.{Wrong}
 use Rattle.draft.specs.Labels.{slot_field}
-use borrow.Author.Rules.{rules}
 use Rattle.draft.proofs.labels.slot.Goals as goal
-
-pub number_from-n-requires : goal.number_from-n-requires
-unfolding slot_field
-number_from-n-requires c =
-    search rules
-
-pub no_what-requires : goal.no_what-requires
-unfolding slot_field
-no_what-requires c =
-    search rules
 
 pub returns-then-not-n : goal.returns-then-not-n
 unfolding slot_field
@@ -23,16 +12,6 @@ returns-then-not-n c =
       ← c.number_from-n.ensures,
       not-true c.number_from-n.result.fine c.if-not-n.true,
     ) (record { tells = ap Wrong c.no_what.ensures; leaves = refl })
-
-pub change-requires : goal.change-requires
-unfolding slot_field
-change-requires c =
-    search rules
-
-pub shape_of-b : goal.shape_of-b
-unfolding slot_field
-shape_of-b c =
-    search rules
 
 pub returns : goal.returns
 unfolding slot_field

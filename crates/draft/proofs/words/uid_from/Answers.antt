@@ -1,23 +1,7 @@
 -- Each test is the definition's. Assumes nothing.
 use borrow.Author.Tests.{eq-eqb, ne_eqb}
 use Rattle.draft.specs.Words.{uid_by, uid_from}
-use borrow.Author.Rules.{rules}
 use Rattle.draft.proofs.words.uid_from.Goals as goal
-
-pub word_from-w-requires : goal.word_from-w-requires
-unfolding uid_by uid_from
-word_from-w-requires c =
-    search rules
-
-pub text_of-text-requires : goal.text_of-text-requires
-unfolding uid_by uid_from
-text_of-text-requires c =
-    search rules
-
-pub high_in-h-requires : goal.high_in-h-requires
-unfolding uid_by uid_from
-high_in-h-requires c =
-    search rules
 
 pub returns-then-text-ne16 : goal.returns-then-text-ne16
 unfolding uid_by uid_from

@@ -1,6 +1,5 @@
 -- A code of more than a byte is in no row; any other is looked up.
 -- Assumes nothing.
-use borrow.Author.Rules.{rules}
 use Rattle.request.proofs.TableLookup.{look_over}
 use Rattle.face.specs.Fields.{task_command}
 use Rattle.face.proofs.fields.task_command.Goals as goal
@@ -9,16 +8,6 @@ pub returns-then-code-gt255 : goal.returns-then-code-gt255
 unfolding task_command
 returns-then-code-gt255 c =
     rw (look_over _ c.if-code-gt255.true)
-
-pub overflow_cast-code : goal.overflow_cast-code
-unfolding task_command
-overflow_cast-code c =
-    search rules
-
-pub find-found-requires : goal.find-found-requires
-unfolding task_command
-find-found-requires c =
-    search rules
 
 pub returns-in_default : goal.returns-in_default
 unfolding task_command

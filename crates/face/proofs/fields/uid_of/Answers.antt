@@ -3,15 +3,9 @@
 use native.Mathlib.Omega.{arith}
 use mathlib.Core.Path.{◌∙◌}
 use lib.Seq.{take_all}
-use borrow.Author.Rules.{rules}
 use borrow.Author.Tests.{eq-eqb, ne_eqb}
 use Rattle.face.specs.Fields.{uid_of}
 use Rattle.face.proofs.fields.uid_of.Goals as goal
-
-pub uid_at-requires : goal.uid_at-requires
-unfolding uid_of
-uid_at-requires c =
-    search rules
 
 pub returns-then-bytes-eq8 : goal.returns-then-bytes-eq8
 unfolding uid_of

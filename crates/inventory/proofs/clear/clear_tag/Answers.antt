@@ -1,7 +1,6 @@
 -- A label's slot is cleared, any other tag stays.
 use mathlib.Core.Path.{◌≡◌, refl}
 use native.Mathlib.Omega.{arith}
-use borrow.Author.Rules.{rules}
 use Rattle.rack.specs.File.{Kind}
 use Rattle.rack.proofs.TagKinds.{kind_label, kind_none, fits_label}
 use Rattle.inventory.specs.Walk.{clear_body}
@@ -11,11 +10,6 @@ pub clear_slot-requires : goal.clear_slot-requires
 clear_slot-requires c =
     let f = c.requires in
     omega (arith, (fits_label _ (rw (kind_label _ c.if-kind-eq-LABEL.true) at f)).0)
-
-pub shape_of-body : goal.shape_of-body
-unfolding clear_body
-shape_of-body c =
-    search rules
 
 pub returns-then-kind-eq-LABEL : goal.returns-then-kind-eq-LABEL
 unfolding clear_body

@@ -3,7 +3,6 @@ use mathlib.Core.Path.{◌≡◌, refl, sym}
 use mathlib.Core.List.{[]}
 use native.Mathlib.Nat.{add-zero}
 use native.Mathlib.Omega.{arith}
-use borrow.Author.Rules.{rules}
 use Rattle.rack.specs.File.{Kind}
 use Rattle.rack.proofs.TagKinds.{kind_label, kind_none, fits_label}
 use Rattle.inventory.specs.Walk.{uid_at}
@@ -14,11 +13,6 @@ take_label-requires c =
     let p = c.requires in
     let f = p.0 in
     (omega (arith, (fits_label _ (rw (kind_label _ c.if-kind-eq-LABEL.true) at f)).0), p.1)
-
-pub shape_of-us-then-kind-eq-LABEL : goal.shape_of-us-then-kind-eq-LABEL
-unfolding uid_at
-shape_of-us-then-kind-eq-LABEL c =
-    search rules
 
 pub returns-then-kind-eq-LABEL : goal.returns-then-kind-eq-LABEL
 unfolding uid_at

@@ -20,16 +20,6 @@ returns c =
     let l = laid_part {xs = 0 ∷ get_or b 8 0 ∷ []} {old = c.args.out.now} (part 0 8 b) (record { long = refl; is = refl }) (omega (arith, c.requires)) h e in
     (e.0, l.is)
 
-pub bounds-out-0 : goal.bounds-out-0
-unfolding answer_frame
-bounds-out-0 c =
-    search rules
-
-pub bounds-b-8 : goal.bounds-b-8
-unfolding answer_frame
-bounds-b-8 c =
-    search rules
-
 pub bounds-out-1 : goal.bounds-out-1
 unfolding answer_frame
 bounds-out-1 c =

@@ -26,11 +26,6 @@ returns c =
     let l = laid_part {old = old} (part 11 3 b) k (omega (arith, c.requires)) (length_part 11 3 b (omega (arith, c.requires))) f in
     (omega (arith, e.0, f.0), l.is)
 
-pub bounds-out-0 : goal.bounds-out-0
-unfolding answer_frame
-bounds-out-0 c =
-    search rules
-
 pub bounds-out-1 : goal.bounds-out-1
 unfolding answer_frame
 bounds-out-1 c =

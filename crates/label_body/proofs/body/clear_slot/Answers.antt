@@ -2,15 +2,9 @@
 -- Assumes nothing.
 use mathlib.Core.Path.{◌∙◌}
 use native.Mathlib.Omega.{arith}
-use borrow.Author.Rules.{rules}
 use lib.ListN.{length-set}
 use Rattle.label_body.specs.Slots.{seek, clear}
 use Rattle.label_body.proofs.body.clear_slot.Goals as goal
-
-pub bounds-b-15 : goal.bounds-b-15
-unfolding clear seek
-bounds-b-15 c =
-    search rules
 
 pub bounds-b-16 : goal.bounds-b-16
 unfolding clear seek

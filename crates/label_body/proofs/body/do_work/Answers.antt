@@ -43,20 +43,10 @@ unfolding worked WorkFits
 returns-in-Nothing c =
     rw c.in-Nothing.is
 
-pub shape_of-b-in-Write : goal.shape_of-b-in-Write
-unfolding worked WorkFits
-shape_of-b-in-Write c =
-    search rules
-
 pub returns-in-Write : goal.returns-in-Write
 unfolding worked WorkFits
 returns-in-Write c =
     written _ _ _ _ c.in-Write.is c.place-at.ensures c.put_bytes.ensures.1
-
-pub shape_of-b-in-Lock : goal.shape_of-b-in-Lock
-unfolding worked WorkFits
-shape_of-b-in-Lock c =
-    search rules
 
 pub returns-in-Lock : goal.returns-in-Lock
 unfolding worked WorkFits

@@ -3,7 +3,6 @@
 use Prim.Native.Nat.{◌+◌, ◌*◌, ◌≤◌}
 use native.Mathlib.Omega.{arith}
 use lib.ListN.{get_or}
-use borrow.Author.Rules.{rules}
 use Rattle.label_body.specs.Body.{block_at}
 use Rattle.label_body.proofs.BodyRoom.{place_small}
 use Rattle.label_body.proofs.body.place.Goals as goal
@@ -14,16 +13,6 @@ small c =
     let a = c.args in
     place_small a.n (get_or a.b.now 12 0) (omega arith) (omega (arith, c.shared_slice_known-2-1.given 12))
 
-pub lock_room-room-requires : goal.lock_room-room-requires
-unfolding block_at
-lock_room-room-requires c =
-    search rules
-
-pub bounds-b-12 : goal.bounds-b-12
-unfolding block_at
-bounds-b-12 c =
-    search rules
-
 pub overflow_cast-size : goal.overflow_cast-size
 unfolding block_at
 overflow_cast-size c =
@@ -33,11 +22,6 @@ pub overflow_add-size : goal.overflow_add-size
 unfolding block_at
 overflow_add-size c =
     omega (arith, c.shared_slice_known-2-1.given 12)
-
-pub overflow_add-result : goal.overflow_add-result
-unfolding block_at
-overflow_add-result c =
-    search rules
 
 pub overflow_mul-result : goal.overflow_mul-result
 unfolding block_at

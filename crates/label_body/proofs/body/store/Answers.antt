@@ -2,15 +2,9 @@
 -- Assumes nothing.
 use mathlib.Core.Path.{◌∙◌}
 use native.Mathlib.Omega.{arith}
-use borrow.Author.Rules.{rules}
 use lib.ListN.{length-set}
 use Rattle.label_body.specs.Body.{store_of}
 use Rattle.label_body.proofs.body.store.Goals as goal
-
-pub bounds-b-8 : goal.bounds-b-8
-unfolding store_of
-bounds-b-8 c =
-    search rules
 
 pub bounds-b-9 : goal.bounds-b-9
 unfolding store_of

@@ -1,27 +1,11 @@
 -- The two states, and then the AFI.
 -- Assumes nothing.
 use mathlib.Core.Path.{◌∙◌}
-use borrow.Author.Rules.{rules}
 use borrow.Author.Tests.{ne_eqb}
 use Rattle.label.specs.Step.{ready, heeds}
 use Rattle.label_body.specs.Body.{load_of}
 use Rattle.label_body.specs.Slots.{takes_part}
 use Rattle.label_body.proofs.body.takes_part.Goals as goal
-
-pub bounds-b-9 : goal.bounds-b-9
-unfolding takes_part heeds ready load_of
-bounds-b-9 c =
-    search rules
-
-pub passing-passes-requires : goal.passing-passes-requires
-unfolding takes_part heeds ready load_of
-passing-passes-requires c =
-    search rules
-
-pub bounds-b-14 : goal.bounds-b-14
-unfolding takes_part heeds ready load_of
-bounds-b-14 c =
-    search rules
 
 pub returns-then-state-eq1 : goal.returns-then-state-eq1
 unfolding takes_part heeds ready load_of

@@ -1,13 +1,7 @@
 -- By the tests of the definition. Assumes nothing.
-use borrow.Author.Rules.{rules}
 use Rattle.frame.proofs.Tests.{tests}
 use Rattle.label_body.specs.Field.{field_at}
 use Rattle.label_body.proofs.field.field_at.Goals as goal
-
-pub later_field-requires : goal.later_field-requires
-unfolding field_at
-later_field-requires c =
-    search rules
 
 pub returns-then-place-gt14 : goal.returns-then-place-gt14
 unfolding field_at

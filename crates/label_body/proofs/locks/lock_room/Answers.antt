@@ -2,14 +2,8 @@
 -- Assumes nothing.
 use mathlib.Core.Path.{refl}
 use native.Mathlib.Omega.{arith}
-use borrow.Author.Rules.{rules}
 use Rattle.label_body.specs.Locks.{lock_room}
 use Rattle.label_body.proofs.locks.lock_room.Goals as goal
-
-pub bounds-b-11 : goal.bounds-b-11
-unfolding lock_room
-bounds-b-11 c =
-    search rules
 
 pub overflow_cast-result : goal.overflow_cast-result
 unfolding lock_room

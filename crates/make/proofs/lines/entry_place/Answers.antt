@@ -1,5 +1,5 @@
 -- Each test is the definition's. Assumes nothing.
-use Rattle.std.proofs.Common.{rules, le-ltb, lt-ltb}
+use Rattle.std.proofs.Common.{le-ltb, lt-ltb}
 use Rattle.make.specs.Tags.{entry_place}
 use Rattle.make.proofs.lines.entry_place.Goals as goal
 
@@ -7,11 +7,6 @@ pub returns-then-i-gt64 : goal.returns-then-i-gt64
 unfolding entry_place
 returns-then-i-gt64 c =
     rw (lt-ltb _ _ c.if-i-gt64.true)
-
-pub entry_of-requires : goal.entry_of-requires
-unfolding entry_place
-entry_of-requires c =
-    search rules
 
 pub returns : goal.returns
 unfolding entry_place

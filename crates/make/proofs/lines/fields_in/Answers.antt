@@ -8,36 +8,11 @@ unfolding fields_in
 loop-left-init c =
     (refl, refl)
 
-pub overflow_sub-left : goal.overflow_sub-left
-unfolding fields_in
-overflow_sub-left c =
-    search rules
-
-pub word_from-w-requires : goal.word_from-w-requires
-unfolding fields_in
-word_from-w-requires c =
-    search rules
-
-pub is_empty-requires : goal.is_empty-requires
-unfolding fields_in
-is_empty-requires c =
-    search rules
-
-pub shape_of-b-then-is_empty : goal.shape_of-b-then-is_empty
-unfolding fields_in
-shape_of-b-then-is_empty c =
-    search rules
-
 pub returns-then-is_empty : goal.returns-then-is_empty
 unfolding fields_in
 returns-then-is_empty c =
     fields_none _ _ _ _ _ _ _ _ c.loop-left.invariant.1 c.loop-left-test.true c.word_from-w.ensures c.is_empty.ensures
     c.if-is_empty.true
-
-pub field-r-requires : goal.field-r-requires
-unfolding fields_in
-field-r-requires c =
-    search rules
 
 pub loop-left-smaller-in-On : goal.loop-left-smaller-in-On
 unfolding fields_in
@@ -65,21 +40,11 @@ loop-left-preserved c =
     let u = c.field-r.ensures in
     (search rules, fields_sized _ _ _ _ _ _ _ _ c.loop-left.invariant.1 c.loop-left-test.true v k c.if-is_empty.false u c.in-Sized.is)
 
-pub shape_of-b-in-Wrong : goal.shape_of-b-in-Wrong
-unfolding fields_in
-shape_of-b-in-Wrong c =
-    search rules
-
 pub returns-in-Wrong : goal.returns-in-Wrong
 unfolding fields_in
 returns-in-Wrong c =
     fields_wrong _ _ _ _ _ _ _ _ c.loop-left.invariant.1 c.loop-left-test.true c.word_from-w.ensures c.is_empty.ensures
     c.if-is_empty.false c.field-r.ensures c.in-Wrong.is
-
-pub shape_of-b : goal.shape_of-b
-unfolding fields_in
-shape_of-b c =
-    search rules
 
 pub returns : goal.returns
 unfolding fields_in

@@ -1,6 +1,6 @@
 -- What was judged is what is given away. Assumes nothing.
 use native.Mathlib.Nat.{sub-zero}
-use Rattle.std.proofs.Common.{rules, le-ltb, lt-ltb, eq-eqb, ne_eqb}
+use Rattle.std.proofs.Common.{le-ltb, lt-ltb, eq-eqb, ne_eqb}
 use Rattle.make.specs.Made.{judged}
 use Rattle.make.proofs.lines.judged.Goals as goal
 
@@ -13,26 +13,6 @@ pub returns-then-out-n : goal.returns-then-out-n
 unfolding judged
 returns-then-out-n c =
     record { fits = tt; value = rw (le-ltb _ _ c.if-n-gt65536.false, lt-ltb _ _ c.if-out-n.true) }
-
-pub slice_bounds-judge-count : goal.slice_bounds-judge-count
-unfolding judged
-slice_bounds-judge-count c =
-    search rules
-
-pub slice_bounds-judge-start : goal.slice_bounds-judge-start
-unfolding judged
-slice_bounds-judge-start c =
-    search rules
-
-pub slice_bounds-judge-end : goal.slice_bounds-judge-end
-unfolding judged
-slice_bounds-judge-end c =
-    search rules
-
-pub judge-v-requires : goal.judge-v-requires
-unfolding judged
-judge-v-requires c =
-    search rules
 
 pub returns-then-v-ne0 : goal.returns-then-v-ne0
 unfolding judged

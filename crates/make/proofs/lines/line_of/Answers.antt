@@ -1,14 +1,9 @@
 -- Each test is the definition's. Assumes nothing.
 use native.Mathlib.Nat.{sub-zero}
-use Rattle.std.proofs.Common.{rules, eq-eqb, ne_eqb, le-leb}
+use Rattle.std.proofs.Common.{eq-eqb, ne_eqb, le-leb}
 use borrow.Author.Tests.{lt-leb}
 use Rattle.make.specs.Lines.{line_of}
 use Rattle.make.proofs.lines.line_of.Goals as goal
-
-pub text_of-line-requires : goal.text_of-line-requires
-unfolding line_of
-text_of-line-requires c =
-    search rules
 
 pub returns-then-n-eq0 : goal.returns-then-n-eq0
 unfolding line_of
@@ -19,36 +14,6 @@ pub returns-then-text-to : goal.returns-then-text-to
 unfolding line_of
 returns-then-text-to c =
     rw (← c.text_of-line.ensures, ne_eqb _ _ c.if-n-eq0.false, le-leb _ _ c.if-text-to.true)
-
-pub overflow_sub-n : goal.overflow_sub-n
-unfolding line_of
-overflow_sub-n c =
-    search rules
-
-pub bounds-line-n : goal.bounds-line-n
-unfolding line_of
-bounds-line-n c =
-    search rules
-
-pub overflow_sub-result : goal.overflow_sub-result
-unfolding line_of
-overflow_sub-result c =
-    search rules
-
-pub slice_bounds-result-count : goal.slice_bounds-result-count
-unfolding line_of
-slice_bounds-result-count c =
-    search rules
-
-pub slice_bounds-result-start : goal.slice_bounds-result-start
-unfolding line_of
-slice_bounds-result-start c =
-    search rules
-
-pub slice_bounds-result-end : goal.slice_bounds-result-end
-unfolding line_of
-slice_bounds-result-end c =
-    search rules
 
 pub returns-then-line-n-eq13 : goal.returns-then-line-n-eq13
 unfolding line_of

@@ -1,6 +1,5 @@
 -- Each test is the definition's. Assumes nothing.
 use Rattle.make.specs.Tags.{measured}
-use Rattle.std.proofs.Common.{rules}
 use mathlib.Core.Path.{ap}
 use mathlib.Core.Bool.{not}
 use Rattle.make.proofs.lines.measured.Goals as goal
@@ -9,11 +8,6 @@ pub returns-then-not-sized : goal.returns-then-not-sized
 unfolding measured
 returns-then-not-sized c =
     rw (ap not c.if-not-sized.true)
-
-pub over-requires : goal.over-requires
-unfolding measured
-over-requires c =
-    search rules
 
 pub returns-then-over : goal.returns-then-over
 unfolding measured

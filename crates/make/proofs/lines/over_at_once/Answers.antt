@@ -1,12 +1,7 @@
 -- Each test is the definition's. Assumes nothing.
-use Rattle.std.proofs.Common.{rules, eq-eqb, ne_eqb}
+use Rattle.std.proofs.Common.{eq-eqb, ne_eqb}
 use Rattle.make.specs.Tags.{over_at_once}
 use Rattle.make.proofs.lines.over_at_once.Goals as goal
-
-pub over-requires : goal.over-requires
-unfolding over_at_once
-over-requires c =
-    search rules
 
 pub returns-then-m-eq-CHIP : goal.returns-then-m-eq-CHIP
 unfolding over_at_once

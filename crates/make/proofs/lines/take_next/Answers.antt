@@ -1,32 +1,12 @@
 -- Each test is the definition's. Assumes nothing.
-use Rattle.std.proofs.Common.{refl, rules, le-ltb, lt-ltb}
+use Rattle.std.proofs.Common.{refl, le-ltb, lt-ltb}
 use Rattle.make.specs.Tags.{take_next}
 use Rattle.make.proofs.lines.take_next.Goals as goal
-
-pub after-requires : goal.after-requires
-unfolding take_next
-after-requires c =
-    search rules
 
 pub returns-then-len-gt262143 : goal.returns-then-len-gt262143
 unfolding take_next
 returns-then-len-gt262143 c =
     rw (lt-ltb _ _ c.if-len-gt262143.true, ← c.after.ensures) (record { tells = refl; leaves = refl; lays = refl })
-
-pub take_line-requires : goal.take_line-requires
-unfolding take_next
-take_line-requires c =
-    search rules
-
-pub shape_of-b : goal.shape_of-b
-unfolding take_next
-shape_of-b c =
-    search rules
-
-pub shape_of-out : goal.shape_of-out
-unfolding take_next
-shape_of-out c =
-    search rules
 
 pub returns : goal.returns
 unfolding take_next

@@ -1,5 +1,4 @@
 -- A ladder of tests. Assumes nothing.
-use Rattle.std.proofs.Common.{rules}
 use Rattle.frame.proofs.Tests.{tests}
 use Rattle.play.specs.Session.{may_wait}
 use Rattle.play.proofs.SessionLaid.{waits_not, waits_by}
@@ -14,11 +13,6 @@ pub returns-then-room-at : goal.returns-then-room-at
 unfolding may_wait
 returns-then-room-at c =
     waits_not _ _ _ _ c.if-source.false c.if-room-at.true
-
-pub at_hand-requires : goal.at_hand-requires
-unfolding may_wait
-at_hand-requires c =
-    search rules
 
 pub returns : goal.returns
 unfolding may_wait

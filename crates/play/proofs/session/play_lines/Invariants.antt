@@ -1,5 +1,4 @@
 -- What was handed over is all that was said. Assumes nothing.
--- a buffer has as many bytes as before
 use Rattle.std.proofs.Common.{◌≡◌, length}
 use Rattle.rack.specs.Facts.{RackFine}
 use Rattle.play.specs.Facts.{Room}

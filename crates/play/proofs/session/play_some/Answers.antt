@@ -1,12 +1,9 @@
-use Rattle.std.proofs.Common.{◌≡◌, ℕ, refl, ◌∙◌, arith}
+use Rattle.std.proofs.Common.{refl, ◌∙◌, arith}
 use Rattle.play.proofs.SessionLaid.{laid_one, leads_on}
 use Rattle.play.proofs.ToldLeft.{room_stays}
 use mathlib.Core.Path.{ap}
 use mathlib.Core.Bool.{not}
 use Rattle.play.proofs.session.play_some.Goals as goal
-
-stays : {a b c : ℕ} → a ≡ b → b ≡ c → a ≡ c
-stays p q = p ∙ q
 
 pub loop-left-init : goal.loop-left-init
 loop-left-init c =
@@ -32,14 +29,14 @@ loop-left-preserved c =
       leads_on _ _ i.0 c.may_wait.ensures (ap not c.if-not-may_wait.false) t.ensures,
       t.ensures.fine,
       room_stays i.2 k.old k.answer k.meaning,
-      stays k.buf i.3,
-      stays k.tags i.4,
-      stays k.draws i.5,
-      stays k.bytes i.6,
-      stays k.old i.7,
-      stays k.answer i.8,
-      stays k.meaning i.9,
-      stays k.out i.10,
+      k.buf ∙ i.3,
+      k.tags ∙ i.4,
+      k.draws ∙ i.5,
+      k.bytes ∙ i.6,
+      k.old ∙ i.7,
+      k.answer ∙ i.8,
+      k.meaning ∙ i.9,
+      k.out ∙ i.10,
     )
 
 pub play_next-s-requires-in-loop-left : goal.play_next-s-requires-in-loop-left

@@ -1,5 +1,4 @@
 -- Each turn lays its text behind those before. Assumes nothing.
--- a buffer has as many bytes as before
 use Rattle.std.proofs.Common.{◌≡◌, length}
 use Rattle.rack.specs.Facts.{RackFine}
 use Rattle.play.specs.Facts.{Room}

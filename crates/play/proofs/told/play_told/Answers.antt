@@ -1,5 +1,4 @@
 -- The event's own statement, at the draws that the rack takes; the rack as it was stands in its buffer. Assumes nothing.
--- from the part of the old rack back to the event, the draws, the copy and the start
 use Rattle.std.proofs.Common.{◌≡◌, ◌∙◌}
 use Rattle.rack.specs.Facts.{RackFine}
 use Rattle.script.proofs.LinesDraws.{few_inside}

@@ -1,5 +1,4 @@
 -- The meaning is laid by itself first, since the line asks whether there is one. Assumes nothing.
--- from the last call's first argument back to what was heard and to the start
 use Rattle.std.proofs.Common.{sym, subst}
 use Rattle.request.specs.declared.signal.Signal.{Signal}
 use Rattle.play.specs.Facts.{Unchanged}

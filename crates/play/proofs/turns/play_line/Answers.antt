@@ -1,5 +1,4 @@
 -- The bytes of a line are within the buffer that they were read to; what the line asks says what it leaves. Assumes nothing.
--- what the line asks, and what was handed over, from the place where its action is known
 use Rattle.std.proofs.Common.{refl, rules}
 use Rattle.script.specs.declared.lines.Action.TheVariants as act
 use Rattle.script.proofs.LinesInside.{frame_inside}

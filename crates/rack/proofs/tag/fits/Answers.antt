@@ -1,14 +1,8 @@
 -- By the rungs of the kinds.
 -- Assumes nothing.
-use borrow.Author.Rules.{rules}
 use Rattle.rack.specs.File.{length_fits}
 use Rattle.rack.proofs.TagKinds.{kind_label, kind_chip, kind_other}
 use Rattle.rack.proofs.tag.fits.Goals as goal
-
-pub label_fits-requires : goal.label_fits-requires
-unfolding length_fits
-label_fits-requires c =
-    search rules
 
 pub returns-then-kind-eq-LABEL : goal.returns-then-kind-eq-LABEL
 unfolding length_fits

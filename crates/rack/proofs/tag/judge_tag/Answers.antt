@@ -1,7 +1,6 @@
 -- By the rungs of the kinds, whose bodies are long enough to be judged.
 -- Assumes nothing.
 use native.Mathlib.Omega.{arith}
-use borrow.Author.Rules.{rules}
 use Rattle.rack.specs.File.{body_rules}
 use Rattle.rack.proofs.TagKinds.{kind_label, kind_chip, kind_other, fits_label, fits_chip, judged}
 use Rattle.rack.proofs.tag.judge_tag.Goals as goal
@@ -25,8 +24,3 @@ pub returns-then-kind-eq-CHIP : goal.returns-then-kind-eq-CHIP
 unfolding body_rules
 returns-then-kind-eq-CHIP c =
     judged _ _ _ c.requires (rw (kind_chip _ c.if-kind-eq-CHIP.true) c.judge_chip.ensures)
-
-pub good-requires : goal.good-requires
-unfolding body_rules
-good-requires c =
-    search rules

@@ -1,18 +1,7 @@
 -- By what is said: nothing, or the answer of a label or of a chip.
 -- Assumes nothing.
-use borrow.Author.Rules.{rules}
 use Rattle.rack.specs.Tag.{speaks}
 use Rattle.rack.proofs.tag.speaking.Goals as goal
-
-pub speaking-requires : goal.speaking-requires
-unfolding speaks
-speaking-requires c =
-    search rules
-
-pub speaking-requires-in-Chip : goal.speaking-requires-in-Chip
-unfolding speaks
-speaking-requires-in-Chip c =
-    search rules
 
 pub returns-in-Nothing : goal.returns-in-Nothing
 unfolding speaks

@@ -4,11 +4,6 @@ use Rattle.frame.specs.Ending.{bytes_for}
 use borrow.Author.Rules.{rules}
 use Rattle.reader.proofs.writer.mask_bytes.Goals as goal
 
-pub overflow_add-result : goal.overflow_add-result
-unfolding bytes_for
-overflow_add-result c =
-    search rules
-
 pub returns : goal.returns
 unfolding bytes_for
 returns c =

@@ -1,7 +1,6 @@
 -- A ladder of tests on the event number.
 -- Assumes nothing.
 use Rattle.request.specs.Chip.{heard}
-use borrow.Author.Rules.{rules}
 use Rattle.frame.proofs.Tests.{tests}
 use Rattle.request.proofs.chip.hear.Goals as goal
 
@@ -14,11 +13,6 @@ pub returns-then-number-eq2 : goal.returns-then-number-eq2
 unfolding heard
 returns-then-number-eq2 c =
     search tests
-
-pub decode_frame-requires : goal.decode_frame-requires
-unfolding heard
-decode_frame-requires c =
-    search rules
 
 pub returns-then-number-eq5 : goal.returns-then-number-eq5
 unfolding heard

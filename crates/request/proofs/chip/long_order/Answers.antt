@@ -3,7 +3,6 @@
 use mathlib.Core.Path.{◌∙◌, sym}
 use borrow.Author.Tests.{eq-eqb}
 use Rattle.request.specs.Chip.{long}
-use borrow.Author.Rules.{rules}
 use Rattle.frame.proofs.Tests.{tests}
 use Rattle.request.proofs.chip.long_order.Goals as goal
 
@@ -11,11 +10,6 @@ pub returns-then-c-ne9 : goal.returns-then-c-ne9
 unfolding long
 returns-then-c-ne9 c =
     search tests
-
-pub is_listed-requires : goal.is_listed-requires
-unfolding long
-is_listed-requires c =
-    search rules
 
 pub returns-then-is_listed : goal.returns-then-is_listed
 unfolding long

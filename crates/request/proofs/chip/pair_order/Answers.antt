@@ -3,7 +3,6 @@
 use mathlib.Core.Path.{◌∙◌, sym}
 use borrow.Author.Tests.{eq-eqb, ne_eqb}
 use Rattle.request.specs.Chip.{pair}
-use borrow.Author.Rules.{rules}
 use Rattle.frame.proofs.Tests.{tests}
 use Rattle.request.proofs.chip.pair_order.Goals as goal
 
@@ -31,11 +30,6 @@ pub returns-then-c-ne8 : goal.returns-then-c-ne8
 unfolding pair
 returns-then-c-ne8 c =
     search tests
-
-pub is_listed-requires : goal.is_listed-requires
-unfolding pair
-is_listed-requires c =
-    search rules
 
 pub returns-then-is_listed : goal.returns-then-is_listed
 unfolding pair

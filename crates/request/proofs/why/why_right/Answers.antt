@@ -1,13 +1,7 @@
 -- A ladder of tests on numbers, with what each call ensures. Assumes nothing.
 use Rattle.frame.proofs.Tests.{tests}
 use Rattle.request.specs.Why.{why_right}
-use borrow.Author.Rules.{rules}
 use Rattle.request.proofs.why.why_right.Goals as goal
-
-pub why_inventory-requires : goal.why_inventory-requires
-unfolding why_right
-why_inventory-requires c =
-    search rules
 
 pub returns-then-flags-eq1 : goal.returns-then-flags-eq1
 unfolding why_right
@@ -24,30 +18,10 @@ unfolding why_right
 returns-then-f-lt12 c =
     search tests
 
-pub bounds-f-1 : goal.bounds-f-1
-unfolding why_right
-bounds-f-1 c =
-    search rules
-
-pub why_task-requires : goal.why_task-requires
-unfolding why_right
-why_task-requires c =
-    search rules
-
 pub returns-then-flags-eq1-2 : goal.returns-then-flags-eq1-2
 unfolding why_right
 returns-then-flags-eq1-2 c =
     search tests
-
-pub bounds-f-1-2 : goal.bounds-f-1-2
-unfolding why_right
-bounds-f-1-2 c =
-    search rules
-
-pub why_task-requires-2 : goal.why_task-requires-2
-unfolding why_right
-why_task-requires-2 c =
-    search rules
 
 pub returns : goal.returns
 unfolding why_right

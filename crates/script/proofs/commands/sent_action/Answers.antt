@@ -2,15 +2,9 @@
 use Prim.Native.Nat.{ℕ}
 use Rattle.script.specs.Commands.{sent_action}
 use Rattle.script.specs.declared.lines.Action.TheVariants as act
-use borrow.Author.Rules.{rules}
 use borrow.Author.Tests.{eq-eqb, ne_eqb}
 use mathlib.Core.Path.{refl, ap}
 use Rattle.script.proofs.commands.sent_action.Goals as goal
-
-pub event_of-requires : goal.event_of-requires
-unfolding sent_action
-event_of-requires c =
-    search rules
 
 pub returns-then-w-eq0 : goal.returns-then-w-eq0
 unfolding sent_action

@@ -1,23 +1,12 @@
 -- Each way out is a law of CommandWays; the search finds it, and its premises among the facts. Assumes nothing.
-use borrow.Author.Rules.{rules}
 use Rattle.tell.specs.Commands.{command_of}
 use Rattle.tell.proofs.CommandWays.{ways}
 use Rattle.tell.proofs.command.command_of.Goals as goal
-
-pub chip_command-requires : goal.chip_command-requires
-unfolding command_of
-chip_command-requires c =
-    search rules
 
 pub returns-then-number-eq5 : goal.returns-then-number-eq5
 unfolding command_of
 returns-then-number-eq5 c =
     search ways
-
-pub label_command-requires : goal.label_command-requires
-unfolding command_of
-label_command-requires c =
-    search rules
 
 pub returns : goal.returns
 unfolding command_of

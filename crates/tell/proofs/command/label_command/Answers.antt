@@ -1,18 +1,7 @@
 -- Each way out is a law of CommandWays; the search finds it, and its premises among the facts. Assumes nothing.
-use borrow.Author.Rules.{rules}
 use Rattle.tell.specs.Commands.{label_command}
 use Rattle.tell.proofs.CommandWays.{ways}
 use Rattle.tell.proofs.command.label_command.Goals as goal
-
-pub has_option-requires : goal.has_option-requires
-unfolding label_command
-has_option-requires c =
-    search rules
-
-pub keep_within-requires : goal.keep_within-requires
-unfolding label_command
-keep_within-requires c =
-    search rules
 
 pub returns-in-Ignored : goal.returns-in-Ignored
 unfolding label_command

@@ -1,13 +1,7 @@
 -- Each way out is a law of MeaningWays; the search finds it, and its premises among the facts. Assumes nothing.
-use borrow.Author.Rules.{rules}
 use Rattle.tell.specs.Meanings.{writes_block}
 use Rattle.tell.proofs.MeaningWays.{ways}
 use Rattle.tell.proofs.meaning.writes_block.Goals as goal
-
-pub row_of-row-requires : goal.row_of-row-requires
-unfolding writes_block
-row_of-row-requires c =
-    search rules
 
 pub returns-in-Inventory : goal.returns-in-Inventory
 unfolding writes_block

@@ -1,5 +1,4 @@
 -- The tests stand in the definition's order. Assumes nothing.
-use borrow.Author.Rules.{rules}
 use Rattle.frame.proofs.Tests.{tests}
 use Rattle.text.specs.Count.{count_in}
 use Rattle.text.proofs.count.count_in.Goals as goal
@@ -13,11 +12,6 @@ pub returns-then-word-gt9 : goal.returns-then-word-gt9
 unfolding count_in
 returns-then-word-gt9 c =
     search tests
-
-pub decimal_in-requires : goal.decimal_in-requires
-unfolding count_in
-decimal_in-requires c =
-    search rules
 
 pub returns : goal.returns
 unfolding count_in

@@ -1,5 +1,4 @@
 -- Each way's tests compute the value. Assumes nothing.
-use borrow.Author.Rules.{rules}
 use Rattle.frame.proofs.Tests.{tests}
 use Rattle.text.specs.Hex.{value_of}
 use Rattle.text.proofs.hex.value.Goals as goal
@@ -19,11 +18,6 @@ unfolding value_of
 returns-then-c-lt65 c =
     search tests
 
-pub overflow_sub-result-then-c-lt71 : goal.overflow_sub-result-then-c-lt71
-unfolding value_of
-overflow_sub-result-then-c-lt71 c =
-    search rules
-
 pub returns-then-c-lt71 : goal.returns-then-c-lt71
 unfolding value_of
 returns-then-c-lt71 c =
@@ -33,11 +27,6 @@ pub returns-then-c-lt97 : goal.returns-then-c-lt97
 unfolding value_of
 returns-then-c-lt97 c =
     search tests
-
-pub overflow_sub-result-then-c-lt103 : goal.overflow_sub-result-then-c-lt103
-unfolding value_of
-overflow_sub-result-then-c-lt103 c =
-    search rules
 
 pub returns-then-c-lt103 : goal.returns-then-c-lt103
 unfolding value_of

@@ -10,30 +10,15 @@ unfolding mark_length
 returns-then-s-lt3 c =
     record { value = mark_short c.args.s.now c.if-s-lt3.true; upper_bound = search rules }
 
-pub bounds-s-0 : goal.bounds-s-0
-unfolding mark_length
-bounds-s-0 c =
-    search rules
-
 pub returns-then-s : goal.returns-then-s
 unfolding mark_length
 returns-then-s c =
     search tests
 
-pub bounds-s-1 : goal.bounds-s-1
-unfolding mark_length
-bounds-s-1 c =
-    search rules
-
 pub returns-then-s-2 : goal.returns-then-s-2
 unfolding mark_length
 returns-then-s-2 c =
     search tests
-
-pub bounds-s-2 : goal.bounds-s-2
-unfolding mark_length
-bounds-s-2 c =
-    search rules
 
 pub returns-then-s-3 : goal.returns-then-s-3
 unfolding mark_length

@@ -1,5 +1,4 @@
 -- Each way's tests compute the letter. Assumes nothing.
-use borrow.Author.Rules.{rules}
 use Rattle.frame.proofs.Tests.{tests}
 use Rattle.text.specs.Words.{lowered}
 use Rattle.text.proofs.words.lower.Goals as goal
@@ -8,11 +7,6 @@ pub returns-then-c-lt65 : goal.returns-then-c-lt65
 unfolding lowered
 returns-then-c-lt65 c =
     search tests
-
-pub overflow_add-result : goal.overflow_add-result
-unfolding lowered
-overflow_add-result c =
-    search rules
 
 pub returns-then-c-lt91 : goal.returns-then-c-lt91
 unfolding lowered

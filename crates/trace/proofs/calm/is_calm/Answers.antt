@@ -2,18 +2,7 @@
 use mathlib.Core.Path.{ap, ◌∙◌}
 use Rattle.request.specs.declared.table.Row.{Row}
 use Rattle.trace.specs.Calm.{calm_task, calm_call}
-use borrow.Author.Rules.{rules}
 use Rattle.trace.proofs.calm.is_calm.Goals as goal
-
-pub row_of-row-requires : goal.row_of-row-requires
-unfolding calm_call
-row_of-row-requires c =
-    search rules
-
-pub is_reading-requires : goal.is_reading-requires
-unfolding calm_call
-is_reading-requires c =
-    search rules
 
 pub returns-in-Ignored : goal.returns-in-Ignored
 unfolding calm_call

@@ -4,13 +4,7 @@ use mathlib.Core.Path.{ap}
 use lib.Dec.{eqb}
 use Rattle.request.specs.declared.table.Row.{Row}
 use Rattle.trace.specs.Calm.{one_task}
-use borrow.Author.Rules.{rules}
 use Rattle.trace.proofs.calm.is_for_one.Goals as goal
-
-pub row_of-row-requires : goal.row_of-row-requires
-unfolding one_task
-row_of-row-requires c =
-    search rules
 
 pub returns-in-Everyone : goal.returns-in-Everyone
 unfolding one_task

@@ -1,12 +1,6 @@
 -- By the call. Assumes nothing.
 use Rattle.trace.specs.Calm.{one_call}
-use borrow.Author.Rules.{rules}
 use Rattle.trace.proofs.calm.is_one.Goals as goal
-
-pub is_for_one-requires : goal.is_for_one-requires
-unfolding one_call
-is_for_one-requires c =
-    search rules
 
 pub returns-in-Ignored : goal.returns-in-Ignored
 unfolding one_call

@@ -1,12 +1,6 @@
 -- By whether the frame is for one UID. Assumes nothing.
 use Rattle.trace.specs.Calm.{may_differ}
-use borrow.Author.Rules.{rules}
 use Rattle.trace.proofs.calm.may_differ.Goals as goal
-
-pub is_owner-requires : goal.is_owner-requires
-unfolding may_differ
-is_owner-requires c =
-    search rules
 
 pub returns-then-one : goal.returns-then-one
 unfolding may_differ

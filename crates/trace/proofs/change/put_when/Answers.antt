@@ -1,28 +1,12 @@
 -- By whether it is so. Assumes nothing.
 use Rattle.trace.specs.Change.{when_text}
 use Rattle.trace.proofs.ChangeLaid.{puts_none, puts_yes, puts_no}
-use borrow.Author.Rules.{rules}
 use Rattle.trace.proofs.change.put_when.Goals as goal
-
-pub put_text-requires : goal.put_text-requires
-unfolding when_text
-put_text-requires c =
-    search rules
-
-pub shape_of-out-then-told : goal.shape_of-out-then-told
-unfolding when_text
-shape_of-out-then-told c =
-    search rules
 
 pub returns-then-told : goal.returns-then-told
 unfolding when_text
 returns-then-told c =
     puts_yes _ _ c.if-told.true c.put_text.ensures
-
-pub inside-requires : goal.inside-requires
-unfolding when_text
-inside-requires c =
-    search rules
 
 pub returns : goal.returns
 unfolding when_text

@@ -3,7 +3,6 @@ use mathlib.Core.Path.{refl, sym}
 use borrow.Author.Tests.{le-leb, lt-leb}
 use lib.Seq.{set_out}
 use Rattle.trace.specs.Change.{colon_at}
-use borrow.Author.Rules.{rules}
 use Rattle.trace.proofs.change.set_colon.Goals as goal
 
 pub returns-then-end-at : goal.returns-then-end-at
@@ -15,16 +14,6 @@ pub returns-then-out-at : goal.returns-then-out-at
 unfolding colon_at
 returns-then-out-at c =
     (refl, rw (lt-leb _ _ c.if-end-at.false) (sym (set_out _ _ _ c.if-out-at.true)))
-
-pub bounds-out-at : goal.bounds-out-at
-unfolding colon_at
-bounds-out-at c =
-    search rules
-
-pub shape_of-out : goal.shape_of-out
-unfolding colon_at
-shape_of-out c =
-    search rules
 
 pub returns : goal.returns
 unfolding colon_at

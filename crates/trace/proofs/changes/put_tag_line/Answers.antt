@@ -3,18 +3,12 @@ use native.Mathlib.Omega.{arith}
 use Rattle.rack.proofs.TagKinds.{kind_label, kind_chip, kind_other, label_sized, chip_80}
 use Rattle.trace.specs.Changes.{tag_line}
 use Rattle.trace.proofs.ChangeLaid.{puts_none}
-use borrow.Author.Rules.{rules}
 use Rattle.trace.proofs.changes.put_tag_line.Goals as goal
 
 pub put_label_line-requires : goal.put_label_line-requires
 unfolding tag_line
 put_label_line-requires c =
     let f = c.requires in label_sized _ (rw (kind_label _ c.if-kind-eq-LABEL.true) at f)
-
-pub shape_of-out-then-kind-eq-LABEL : goal.shape_of-out-then-kind-eq-LABEL
-unfolding tag_line
-shape_of-out-then-kind-eq-LABEL c =
-    search rules
 
 pub returns-then-kind-eq-LABEL : goal.returns-then-kind-eq-LABEL
 unfolding tag_line
@@ -26,20 +20,10 @@ unfolding tag_line
 put_chip_line-requires c =
     let f = c.requires in omega (arith, chip_80 _ (rw (kind_chip _ c.if-kind-eq-CHIP.true) at f))
 
-pub shape_of-out-then-kind-eq-CHIP : goal.shape_of-out-then-kind-eq-CHIP
-unfolding tag_line
-shape_of-out-then-kind-eq-CHIP c =
-    search rules
-
 pub returns-then-kind-eq-CHIP : goal.returns-then-kind-eq-CHIP
 unfolding tag_line
 returns-then-kind-eq-CHIP c =
     rw (kind_chip _ c.if-kind-eq-CHIP.true) c.put_chip_line.ensures
-
-pub inside-requires : goal.inside-requires
-unfolding tag_line
-inside-requires c =
-    search rules
 
 pub returns : goal.returns
 unfolding tag_line

@@ -3,18 +3,12 @@ use mathlib.Core.Path.{ap}
 use mathlib.Core.Bool.{not}
 use borrow.Author.Tests.{lt-ltb, le-ltb}
 use Rattle.trace.specs.Chips.{chip_told}
-use borrow.Author.Rules.{rules}
 use Rattle.trace.proofs.chips.is_told.Goals as goal
 
 pub returns-then-a-lt80 : goal.returns-then-a-lt80
 unfolding chip_told
 returns-then-a-lt80 c =
     rw (lt-ltb _ _ c.if-a-lt80.true)
-
-pub same_bytes-requires : goal.same_bytes-requires
-unfolding chip_told
-same_bytes-requires c =
-    search rules
 
 pub returns : goal.returns
 unfolding chip_told

@@ -2,33 +2,17 @@
 use mathlib.Core.Path.{sym, ◌∙◌}
 use Rattle.trace.specs.Chips.{chip_line}
 use Rattle.trace.proofs.ChangeLaid.{puts_none, puts_yes, puts_no, told_long}
-use borrow.Author.Rules.{rules}
 use Rattle.trace.proofs.chips.put_chip_line.Goals as goal
-
-pub is_told-requires : goal.is_told-requires
-unfolding chip_line
-is_told-requires c =
-    search rules
 
 pub put_told-requires : goal.put_told-requires
 unfolding chip_line
 put_told-requires c =
     (told_long _ _ (sym c.is_told.ensures ∙ c.if-is_told.true), c.requires)
 
-pub shape_of-out-then-is_told : goal.shape_of-out-then-is_told
-unfolding chip_line
-shape_of-out-then-is_told c =
-    search rules
-
 pub returns-then-is_told : goal.returns-then-is_told
 unfolding chip_line
 returns-then-is_told c =
     puts_yes _ _ (sym c.is_told.ensures ∙ c.if-is_told.true) c.put_told.ensures
-
-pub inside-requires : goal.inside-requires
-unfolding chip_line
-inside-requires c =
-    search rules
 
 pub returns : goal.returns
 unfolding chip_line

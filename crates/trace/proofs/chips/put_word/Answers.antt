@@ -5,28 +5,7 @@ use Rattle.print.proofs.Puts.{puts_by}
 use Rattle.trace.specs.Chips.{counter_text, word_text}
 use Rattle.trace.specs.Change.{content_text}
 use Rattle.trace.proofs.ChangeLaid.{puts_yes, puts_no, part_of, place_low}
-use borrow.Author.Rules.{rules}
 use Rattle.trace.proofs.chips.put_word.Goals as goal
-
-pub is_counter-requires : goal.is_counter-requires
-unfolding word_text
-is_counter-requires c =
-    search rules
-
-pub block_of-v-requires : goal.block_of-v-requires
-unfolding word_text
-block_of-v-requires c =
-    search rules
-
-pub put_counter-requires : goal.put_counter-requires
-unfolding word_text
-put_counter-requires c =
-    search rules
-
-pub shape_of-out-then-is_counter : goal.shape_of-out-then-is_counter
-unfolding word_text
-shape_of-out-then-is_counter c =
-    search rules
 
 pub returns-then-is_counter : goal.returns-then-is_counter
 unfolding word_text
@@ -34,40 +13,15 @@ returns-then-is_counter c =
     puts_yes _ _ (sym c.is_counter.ensures ∙ c.if-is_counter.true)
     (puts_by c.put_counter.ensures (ap (counter_text _) c.block_of-v.ensures))
 
-pub place-p-requires : goal.place-p-requires
-unfolding word_text
-place-p-requires c =
-    search rules
-
 pub overflow_add-end : goal.overflow_add-end
 unfolding word_text
 overflow_add-end c =
     omega (arith, c.place-p.ensures, place_low c.args.n)
 
-pub slice_bounds-put_content-count : goal.slice_bounds-put_content-count
-unfolding word_text
-slice_bounds-put_content-count c =
-    search rules
-
-pub slice_bounds-put_content-start : goal.slice_bounds-put_content-start
-unfolding word_text
-slice_bounds-put_content-start c =
-    search rules
-
 pub slice_bounds-put_content-end : goal.slice_bounds-put_content-end
 unfolding word_text
 slice_bounds-put_content-end c =
     omega (arith, c.place-p.ensures, place_low c.args.n)
-
-pub put_content-requires : goal.put_content-requires
-unfolding word_text
-put_content-requires c =
-    search rules
-
-pub shape_of-out : goal.shape_of-out
-unfolding word_text
-shape_of-out c =
-    search rules
 
 pub returns : goal.returns
 unfolding word_text

@@ -3,28 +3,12 @@ use mathlib.Core.Path.{ap, sym, ◌∙◌}
 use mathlib.Core.Bool.{not}
 use borrow.Author.Tests.{lt-ltb, le-ltb}
 use Rattle.trace.specs.Labels.{label_told}
-use borrow.Author.Rules.{rules}
 use Rattle.trace.proofs.labels.is_told.Goals as goal
 
 pub returns-then-a-b : goal.returns-then-a-b
 unfolding label_told
 returns-then-a-b c =
     rw (lt-ltb _ _ c.if-a-b.true)
-
-pub same_bytes-requires : goal.same_bytes-requires
-unfolding label_told
-same_bytes-requires c =
-    search rules
-
-pub overflow_sub-b : goal.overflow_sub-b
-unfolding label_told
-overflow_sub-b c =
-    search rules
-
-pub same_bytes-requires-then-same_bytes : goal.same_bytes-requires-then-same_bytes
-unfolding label_told
-same_bytes-requires-then-same_bytes c =
-    search rules
 
 pub returns-then-same_bytes : goal.returns-then-same_bytes
 unfolding label_told

@@ -6,7 +6,6 @@ use Rattle.print.proofs.Puts.{puts_by}
 use Rattle.trace.specs.Change.{content_text}
 use Rattle.trace.specs.Labels.{block_content}
 use Rattle.trace.proofs.ChangeLaid.{puts_none, puts_yes, puts_no, same_by, part_of}
-use borrow.Author.Rules.{rules}
 use Rattle.trace.proofs.labels.put_block_content.Goals as goal
 
 pub same_bytes-requires : goal.same_bytes-requires
@@ -34,11 +33,6 @@ unfolding block_content
 overflow_add-size c =
     omega (arith, c.type_inv.b 12)
 
-pub inside-requires : goal.inside-requires
-unfolding block_content
-inside-requires c =
-    search rules
-
 pub returns-then-same_bytes : goal.returns-then-same_bytes
 unfolding block_content
 returns-then-same_bytes c =
@@ -50,30 +44,10 @@ unfolding block_content
 overflow_add-end c =
     omega (arith, block_inside _ _ _ c.place-p.ensures c.requires.0 c.requires.1)
 
-pub slice_bounds-put_content-count : goal.slice_bounds-put_content-count
-unfolding block_content
-slice_bounds-put_content-count c =
-    search rules
-
-pub slice_bounds-put_content-start : goal.slice_bounds-put_content-start
-unfolding block_content
-slice_bounds-put_content-start c =
-    search rules
-
 pub slice_bounds-put_content-end : goal.slice_bounds-put_content-end
 unfolding block_content
 slice_bounds-put_content-end c =
     block_inside _ _ _ c.place-p.ensures c.requires.0 c.requires.1
-
-pub put_content-requires : goal.put_content-requires
-unfolding block_content
-put_content-requires c =
-    search rules
-
-pub shape_of-out : goal.shape_of-out
-unfolding block_content
-shape_of-out c =
-    search rules
 
 pub returns : goal.returns
 unfolding block_content

@@ -1,23 +1,7 @@
 -- The changes, and the first comma. Assumes nothing.
 use Rattle.trace.specs.Labels.{coloned_changes}
 use Rattle.trace.proofs.ChangeLaid.{puts_coloned}
-use borrow.Author.Rules.{rules}
 use Rattle.trace.proofs.labels.put_coloned.Goals as goal
-
-pub put_label_changes-end-requires : goal.put_label_changes-end-requires
-unfolding coloned_changes
-put_label_changes-end-requires c =
-    search rules
-
-pub set_colon-requires : goal.set_colon-requires
-unfolding coloned_changes
-set_colon-requires c =
-    search rules
-
-pub shape_of-out : goal.shape_of-out
-unfolding coloned_changes
-shape_of-out c =
-    search rules
 
 pub returns : goal.returns
 unfolding coloned_changes

@@ -3,7 +3,6 @@ use mathlib.Core.Path.{sym, ◌∙◌}
 use Rattle.trace.specs.Labels.{label_line}
 use Rattle.label_body.proofs.BodyRoom.{sized_long}
 use Rattle.trace.proofs.ChangeLaid.{puts_none, puts_yes, puts_no, told_whole}
-use borrow.Author.Rules.{rules}
 use Rattle.trace.proofs.labels.put_label_line.Goals as goal
 
 pub put_told-requires : goal.put_told-requires
@@ -14,20 +13,10 @@ unfolding label_line
 is_told-requires c =
     sized_long _ c.requires
 
-pub shape_of-out-then-is_told : goal.shape_of-out-then-is_told
-unfolding label_line
-shape_of-out-then-is_told c =
-    search rules
-
 pub returns-then-is_told : goal.returns-then-is_told
 unfolding label_line
 returns-then-is_told c =
     puts_yes _ _ (sym c.is_told.ensures ∙ c.if-is_told.true) c.put_told.ensures
-
-pub inside-requires : goal.inside-requires
-unfolding label_line
-inside-requires c =
-    search rules
 
 pub returns : goal.returns
 unfolding label_line

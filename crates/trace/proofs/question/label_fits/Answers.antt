@@ -1,33 +1,7 @@
 -- By what is asked. Assumes nothing.
 use Rattle.trace.specs.Question.{label_fits}
 use Rattle.trace.proofs.QuestionTags.{uid_asked}
-use borrow.Author.Rules.{rules}
 use Rattle.trace.proofs.question.label_fits.Goals as goal
-
-pub bounds-b-14 : goal.bounds-b-14
-unfolding label_fits
-bounds-b-14 c =
-    search rules
-
-pub takes_part-requires : goal.takes_part-requires
-unfolding label_fits
-takes_part-requires c =
-    search rules
-
-pub uid_of-requires : goal.uid_of-requires
-unfolding label_fits
-uid_of-requires c =
-    search rules
-
-pub uid_on-requires : goal.uid_on-requires
-unfolding label_fits
-uid_on-requires c =
-    search rules
-
-pub bounds-b-15 : goal.bounds-b-15
-unfolding label_fits
-bounds-b-15 c =
-    search rules
 
 pub returns-in-Label : goal.returns-in-Label
 unfolding label_fits

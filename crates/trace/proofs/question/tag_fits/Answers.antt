@@ -2,7 +2,6 @@
 use native.Mathlib.Omega.{arith}
 use Rattle.rack.proofs.TagKinds.{kind_label, kind_chip, kind_other, fits_label, fits_chip}
 use Rattle.trace.specs.Question.{tag_fits}
-use borrow.Author.Rules.{rules}
 use Rattle.trace.proofs.question.tag_fits.Goals as goal
 
 pub label_fits-requires : goal.label_fits-requires
@@ -19,11 +18,6 @@ pub bounds-b-76 : goal.bounds-b-76
 unfolding tag_fits
 bounds-b-76 c =
     let f = c.requires in omega (arith, fits_chip _ (rw (kind_chip _ c.if-kind-eq-CHIP.true) at f))
-
-pub chip_fits-requires : goal.chip_fits-requires
-unfolding tag_fits
-chip_fits-requires c =
-    search rules
 
 pub returns-then-kind-eq-CHIP : goal.returns-then-kind-eq-CHIP
 unfolding tag_fits

@@ -2,28 +2,7 @@
 use mathlib.Core.Path.{ap}
 use Rattle.trace.specs.declared.reason.Reason.TheVariants as y
 use Rattle.trace.specs.Reason.{for_call}
-use borrow.Author.Rules.{rules}
 use Rattle.trace.proofs.reason.for_call.Goals as goal
-
-pub why_nobody-requires : goal.why_nobody-requires
-unfolding for_call
-why_nobody-requires c =
-    search rules
-
-pub for_inventory-requires : goal.for_inventory-requires
-unfolding for_call
-for_inventory-requires c =
-    search rules
-
-pub for_target-requires : goal.for_target-requires
-unfolding for_call
-for_target-requires c =
-    search rules
-
-pub for_target-requires-in-Do : goal.for_target-requires-in-Do
-unfolding for_call
-for_target-requires-in-Do c =
-    search rules
 
 pub returns-in-Ignored : goal.returns-in-Ignored
 unfolding for_call

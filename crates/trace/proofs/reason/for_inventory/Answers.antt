@@ -1,25 +1,14 @@
 -- A ladder of questions. Assumes nothing.
 use Rattle.trace.specs.Reason.{for_inventory}
 use Rattle.trace.proofs.ReasonWays.{not_said}
-use borrow.Author.Rules.{rules}
 use mathlib.Core.Path.{ap}
 use mathlib.Core.Bool.{not}
 use Rattle.trace.proofs.reason.for_inventory.Goals as goal
-
-pub any-requires : goal.any-requires
-unfolding for_inventory
-any-requires c =
-    search rules
 
 pub returns-then-not-any : goal.returns-then-not-any
 unfolding for_inventory
 returns-then-not-any c =
     rw (not_said c.any.ensures (ap not c.if-not-any.true))
-
-pub any-requires-2 : goal.any-requires-2
-unfolding for_inventory
-any-requires-2 c =
-    search rules
 
 pub returns-then-not-any-2 : goal.returns-then-not-any-2
 unfolding for_inventory

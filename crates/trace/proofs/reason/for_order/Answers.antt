@@ -2,23 +2,7 @@
 use mathlib.Core.Path.{ap}
 use Rattle.trace.specs.declared.reason.Reason.TheVariants as y
 use Rattle.trace.specs.Reason.{for_order}
-use borrow.Author.Rules.{rules}
 use Rattle.trace.proofs.reason.for_order.Goals as goal
-
-pub why_ignored-requires : goal.why_ignored-requires
-unfolding for_order
-why_ignored-requires c =
-    search rules
-
-pub in_inventory-requires : goal.in_inventory-requires
-unfolding for_order
-in_inventory-requires c =
-    search rules
-
-pub in_inventory-requires-in-Marker : goal.in_inventory-requires-in-Marker
-unfolding for_order
-in_inventory-requires-in-Marker c =
-    search rules
 
 pub returns-in-Ignored : goal.returns-in-Ignored
 unfolding for_order

@@ -1,12 +1,6 @@
 -- By the target. Assumes nothing.
 use Rattle.trace.specs.Reason.{for_target}
-use borrow.Author.Rules.{rules}
 use Rattle.trace.proofs.reason.for_target.Goals as goal
-
-pub for_uid-requires : goal.for_uid-requires
-unfolding for_target
-for_uid-requires c =
-    search rules
 
 pub returns-in-Everyone : goal.returns-in-Everyone
 unfolding for_target

@@ -1,13 +1,7 @@
 -- By what the question says. Assumes nothing.
 use mathlib.Core.Path.{sym, ◌∙◌}
 use Rattle.trace.specs.Reason.{in_inventory}
-use borrow.Author.Rules.{rules}
 use Rattle.trace.proofs.reason.in_inventory.Goals as goal
-
-pub any-requires : goal.any-requires
-unfolding in_inventory
-any-requires c =
-    search rules
 
 pub returns-then-any : goal.returns-then-any
 unfolding in_inventory

@@ -1,7 +1,6 @@
 -- A ladder of tests on the number, with what each call ensures. Assumes nothing.
 use Rattle.frame.proofs.Tests.{tests}
 use Rattle.trace.specs.Reason.{reason_of}
-use borrow.Author.Rules.{rules}
 use Rattle.trace.proofs.reason.reason_of.Goals as goal
 
 pub returns-then-number-eq1 : goal.returns-then-number-eq1
@@ -14,30 +13,15 @@ unfolding reason_of
 returns-then-number-eq2 c =
     search tests
 
-pub for_labels-requires : goal.for_labels-requires
-unfolding reason_of
-for_labels-requires c =
-    search rules
-
 pub returns-then-number-eq3 : goal.returns-then-number-eq3
 unfolding reason_of
 returns-then-number-eq3 c =
     search tests
 
-pub for_end-requires : goal.for_end-requires
-unfolding reason_of
-for_end-requires c =
-    search rules
-
 pub returns-then-number-eq4 : goal.returns-then-number-eq4
 unfolding reason_of
 returns-then-number-eq4 c =
     search tests
-
-pub for_chips-requires : goal.for_chips-requires
-unfolding reason_of
-for_chips-requires c =
-    search rules
 
 pub returns-then-number-eq5 : goal.returns-then-number-eq5
 unfolding reason_of

@@ -1,22 +1,6 @@
 -- Each arm is the definition's. Assumes nothing.
 use Rattle.verbs.specs.Commands.{counted_by}
-use Rattle.std.proofs.Common.{rules}
 use Rattle.verbs.proofs.commands.counted.Goals as goal
-
-pub chip-requires : goal.chip-requires
-unfolding counted_by
-chip-requires c =
-    search rules
-
-pub chip-requires-in-Get : goal.chip-requires-in-Get
-unfolding counted_by
-chip-requires-in-Get c =
-    search rules
-
-pub open-requires : goal.open-requires
-unfolding counted_by
-open-requires c =
-    search rules
 
 pub returns-in-Slot : goal.returns-in-Slot
 unfolding counted_by

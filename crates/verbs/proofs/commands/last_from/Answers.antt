@@ -1,5 +1,5 @@
 -- A number below the first has none behind it. Assumes nothing.
-use Rattle.std.proofs.Common.{◌≡◌, ℕ, ◌-◌, ◌<◌, arith, rules, le-leb}
+use Rattle.std.proofs.Common.{◌≡◌, ℕ, ◌-◌, ◌<◌, arith, le-leb}
 use borrow.Author.Tests.{lt-leb}
 use Rattle.frame.proofs.Bools.{and_false, and_true}
 use Rattle.verbs.specs.Commands.{last_from}
@@ -7,11 +7,6 @@ use Rattle.verbs.proofs.commands.last_from.Goals as goal
 
 none : (n first : ℕ) → n < first → n - first ≡ 0
 none n first h = omega arith
-
-pub number_from-n-requires : goal.number_from-n-requires
-unfolding last_from
-number_from-n-requires c =
-    search rules
 
 pub returns-then-n-first : goal.returns-then-n-first
 unfolding last_from

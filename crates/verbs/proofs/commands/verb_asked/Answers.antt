@@ -1,47 +1,6 @@
 -- Each arm is the definition's. Assumes nothing.
 use Rattle.verbs.specs.Commands.{verb_asked}
-use Rattle.std.proofs.Common.{rules}
 use Rattle.verbs.proofs.commands.verb_asked.Goals as goal
-
-pub inventory-requires : goal.inventory-requires
-unfolding verb_asked
-inventory-requires c =
-    search rules
-
-pub chip-requires : goal.chip-requires
-unfolding verb_asked
-chip-requires c =
-    search rules
-
-pub number-requires : goal.number-requires
-unfolding verb_asked
-number-requires c =
-    search rules
-
-pub select-requires : goal.select-requires
-unfolding verb_asked
-select-requires c =
-    search rules
-
-pub label-requires : goal.label-requires
-unfolding verb_asked
-label-requires c =
-    search rules
-
-pub block-requires : goal.block-requires
-unfolding verb_asked
-block-requires c =
-    search rules
-
-pub field-requires : goal.field-requires
-unfolding verb_asked
-field-requires c =
-    search rules
-
-pub wrong-requires : goal.wrong-requires
-unfolding verb_asked
-wrong-requires c =
-    search rules
 
 pub returns-in-Inventory : goal.returns-in-Inventory
 unfolding verb_asked

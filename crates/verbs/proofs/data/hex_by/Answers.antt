@@ -1,28 +1,8 @@
 -- Each arm is the definition's. Assumes nothing.
 use Rattle.verbs.specs.Data.{hex_by}
 use Rattle.verbs.specs.declared.data.DataRead.TheVariants.{Wrong}
-use Rattle.std.proofs.Common.{refl, ap, rules}
+use Rattle.std.proofs.Common.{refl, ap}
 use Rattle.verbs.proofs.data.hex_by.Goals as goal
-
-pub place-requires : goal.place-requires
-unfolding hex_by
-place-requires c =
-    search rules
-
-pub expected-requires : goal.expected-requires
-unfolding hex_by
-expected-requires c =
-    search rules
-
-pub place-requires-in-Odd : goal.place-requires-in-Odd
-unfolding hex_by
-place-requires-in-Odd c =
-    search rules
-
-pub expected-requires-in-Odd : goal.expected-requires-in-Odd
-unfolding hex_by
-expected-requires-in-Odd c =
-    search rules
 
 pub returns-in-Good : goal.returns-in-Good
 unfolding hex_by

@@ -1,12 +1,7 @@
 -- By what was read. Assumes nothing.
 use Rattle.verbs.specs.Pieces.{mask_by}
-use Rattle.std.proofs.Common.{refl, rules}
+use Rattle.std.proofs.Common.{refl}
 use Rattle.verbs.proofs.pieces.mask_by.Goals as goal
-
-pub uid_number-requires : goal.uid_number-requires
-unfolding mask_by
-uid_number-requires c =
-    search rules
 
 pub returns-in-Byte : goal.returns-in-Byte
 unfolding mask_by

@@ -2,18 +2,8 @@
 use Rattle.frame.proofs.Tests.{tests}
 use Rattle.verbs.proofs.Steps.{via}
 use Rattle.verbs.specs.Tokens.{byte_by, byte_in}
-use Rattle.std.proofs.Common.{ap, rules}
+use Rattle.std.proofs.Common.{ap}
 use Rattle.verbs.proofs.tokens.byte_in.Goals as goal
-
-pub high_in-h-requires : goal.high_in-h-requires
-unfolding byte_in
-high_in-h-requires c =
-    search rules
-
-pub bounds-low-0 : goal.bounds-low-0
-unfolding byte_in
-bounds-low-0 c =
-    search rules
 
 pub returns-then-h-eq1 : goal.returns-then-h-eq1
 unfolding byte_in

@@ -12,18 +12,3 @@ pub returns-then-word-ne2 : goal.returns-then-word-ne2
 unfolding afi_in
 returns-then-word-ne2 c =
     search tests
-
-pub bounds-word-0 : goal.bounds-word-0
-unfolding afi_in
-bounds-word-0 c =
-    search rules
-
-pub bounds-word-1 : goal.bounds-word-1
-unfolding afi_in
-bounds-word-1 c =
-    search rules
-
-pub by_digits-requires : goal.by_digits-requires
-unfolding afi_in
-by_digits-requires c =
-    search rules

@@ -2,68 +2,7 @@
 -- Assumes nothing.
 use mathlib.Core.Path.{◌∙◌}
 use Rattle.chip.specs.Step.{act}
-use borrow.Author.Rules.{rules}
 use Rattle.chip.proofs.step.Chip.act.Goals as goal
-
-pub silent-requires : goal.silent-requires
-unfolding act
-silent-requires c =
-    search rules
-
-pub field_off-requires : goal.field_off-requires
-unfolding act
-field_off-requires c =
-    search rules
-
-pub field_on-requires : goal.field_on-requires
-unfolding act
-field_on-requires c =
-    search rules
-
-pub initiate-requires : goal.initiate-requires
-unfolding act
-initiate-requires c =
-    search rules
-
-pub pcall-requires : goal.pcall-requires
-unfolding act
-pcall-requires c =
-    search rules
-
-pub marker-requires : goal.marker-requires
-unfolding act
-marker-requires c =
-    search rules
-
-pub select-requires : goal.select-requires
-unfolding act
-select-requires c =
-    search rules
-
-pub leave-requires : goal.leave-requires
-unfolding act
-leave-requires c =
-    search rules
-
-pub leave-requires-in-Reset : goal.leave-requires-in-Reset
-unfolding act
-leave-requires-in-Reset c =
-    search rules
-
-pub read-requires : goal.read-requires
-unfolding act
-read-requires c =
-    search rules
-
-pub uid-requires : goal.uid-requires
-unfolding act
-uid-requires c =
-    search rules
-
-pub write-requires : goal.write-requires
-unfolding act
-write-requires c =
-    search rules
 
 pub returns-in-Ignored : goal.returns-in-Ignored
 unfolding act

@@ -1,34 +1,18 @@
 -- A ladder of tests on the state and the option.
 -- Assumes nothing.
 use Rattle.chip.specs.Step.{field_on}
-use borrow.Author.Rules.{rules}
 use Rattle.frame.proofs.Tests.{tests}
 use Rattle.chip.proofs.step.Chip.field_on.Goals as goal
-
-pub silent-requires : goal.silent-requires
-unfolding field_on
-silent-requires c =
-    search rules
 
 pub returns-then-self-ne0 : goal.returns-then-self-ne0
 unfolding field_on
 returns-then-self-ne0 c =
     search tests
 
-pub silent-requires-then-self-eq1 : goal.silent-requires-then-self-eq1
-unfolding field_on
-silent-requires-then-self-eq1 c =
-    search rules
-
 pub returns-then-self-eq1 : goal.returns-then-self-eq1
 unfolding field_on
 returns-then-self-eq1 c =
     search tests
-
-pub silent-requires-2 : goal.silent-requires-2
-unfolding field_on
-silent-requires-2 c =
-    search rules
 
 pub returns : goal.returns
 unfolding field_on

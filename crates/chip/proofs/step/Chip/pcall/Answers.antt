@@ -3,49 +3,18 @@
 use mathlib.Core.Path.{◌∙◌, sym}
 use borrow.Author.Tests.{eq-eqb, ne_eqb}
 use Rattle.chip.specs.Step.{pcall}
-use borrow.Author.Rules.{rules}
 use Rattle.frame.proofs.Tests.{tests}
 use Rattle.chip.proofs.step.Chip.pcall.Goals as goal
-
-pub silent-requires : goal.silent-requires
-unfolding pcall
-silent-requires c =
-    search rules
 
 pub returns-then-self-ne2 : goal.returns-then-self-ne2
 unfolding pcall
 returns-then-self-ne2 c =
     search tests
 
-pub chosen-low-requires : goal.chosen-low-requires
-unfolding pcall
-chosen-low-requires c =
-    search rules
-
-pub overflow_mul-id : goal.overflow_mul-id
-unfolding pcall
-overflow_mul-id c =
-    search rules
-
-pub overflow_add-id : goal.overflow_add-id
-unfolding pcall
-overflow_add-id c =
-    search rules
-
-pub told-requires : goal.told-requires
-unfolding pcall
-told-requires c =
-    search rules
-
 pub returns-then-low-eq0 : goal.returns-then-low-eq0
 unfolding pcall
 returns-then-low-eq0 c =
     c.told.ensures ∙ rw (eq-eqb _ _ c.if-self-ne2.false, sym c.chosen-low.ensures, eq-eqb _ _ c.if-low-eq0.true)
-
-pub silent-requires-2 : goal.silent-requires-2
-unfolding pcall
-silent-requires-2 c =
-    search rules
 
 pub returns : goal.returns
 unfolding pcall

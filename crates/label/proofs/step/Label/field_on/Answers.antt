@@ -1,30 +1,14 @@
 -- The one test of the definition.
 -- Assumes nothing.
 use mathlib.Core.Path.{◌∙◌}
-use borrow.Author.Rules.{rules}
 use borrow.Author.Tests.{eq-eqb, ne_eqb}
 use Rattle.label.specs.Step.{field_on}
 use Rattle.label.proofs.step.Label.field_on.Goals as goal
-
-pub put_state-requires : goal.put_state-requires
-unfolding field_on
-put_state-requires c =
-    search rules
-
-pub silent-requires : goal.silent-requires
-unfolding field_on
-silent-requires c =
-    search rules
 
 pub returns-then-self-eq0 : goal.returns-then-self-eq0
 unfolding field_on
 returns-then-self-eq0 c =
     c.silent.ensures ∙ rw (c.put_state.ensures, eq-eqb _ _ c.if-self-eq0.true)
-
-pub silent-requires-2 : goal.silent-requires-2
-unfolding field_on
-silent-requires-2 c =
-    search rules
 
 pub returns : goal.returns
 unfolding field_on

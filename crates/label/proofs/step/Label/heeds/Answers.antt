@@ -1,19 +1,8 @@
 -- The state, and then the AFI.
 -- Assumes nothing.
 use mathlib.Core.Path.{sym, ◌∙◌}
-use borrow.Author.Rules.{rules}
 use Rattle.label.specs.Step.{heeds}
 use Rattle.label.proofs.step.Label.heeds.Goals as goal
-
-pub is_ready-requires : goal.is_ready-requires
-unfolding heeds
-is_ready-requires c =
-    search rules
-
-pub passing-requires : goal.passing-requires
-unfolding heeds
-passing-requires c =
-    search rules
 
 pub returns-then-is_ready : goal.returns-then-is_ready
 unfolding heeds

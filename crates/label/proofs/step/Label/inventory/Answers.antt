@@ -1,45 +1,19 @@
 -- State 0 or not; then one test: the slot sequence ends first, either way.
 -- Assumes nothing.
 use mathlib.Core.Path.{sym, ◌∙◌}
-use borrow.Author.Rules.{rules}
 use borrow.Author.Tests.{eq-eqb, ne_eqb}
 use Rattle.label.specs.Step.{inventory}
 use Rattle.label.proofs.step.Label.inventory.Goals as goal
-
-pub silent-requires : goal.silent-requires
-unfolding inventory
-silent-requires c =
-    search rules
 
 pub returns-then-self-eq0 : goal.returns-then-self-eq0
 unfolding inventory
 returns-then-self-eq0 c =
     c.silent.ensures ∙ rw (eq-eqb _ _ c.if-self-eq0.true)
 
-pub ended-l-requires : goal.ended-l-requires
-unfolding inventory
-ended-l-requires c =
-    search rules
-
-pub heeds-requires : goal.heeds-requires
-unfolding inventory
-heeds-requires c =
-    search rules
-
-pub opens-requires : goal.opens-requires
-unfolding inventory
-opens-requires c =
-    search rules
-
 pub returns-then-heeds : goal.returns-then-heeds
 unfolding inventory
 returns-then-heeds c =
     c.opens.ensures ∙ rw (c.ended-l.ensures, ne_eqb _ _ c.if-self-eq0.false, sym c.heeds.ensures ∙ c.if-heeds.true)
-
-pub silent-requires-2 : goal.silent-requires-2
-unfolding inventory
-silent-requires-2 c =
-    search rules
 
 pub returns : goal.returns
 unfolding inventory

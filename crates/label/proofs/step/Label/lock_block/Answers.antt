@@ -1,24 +1,13 @@
 -- The ladder of the definition.
 -- Assumes nothing.
-use borrow.Author.Rules.{rules}
 use Rattle.label.specs.Step.{lock_block}
 use Rattle.frame.proofs.Tests.{tests}
 use Rattle.label.proofs.step.Label.lock_block.Goals as goal
-
-pub failed-requires : goal.failed-requires
-unfolding lock_block
-failed-requires c =
-    search rules
 
 pub returns-then-self-n : goal.returns-then-self-n
 unfolding lock_block
 returns-then-self-n c =
     search tests
-
-pub failed-requires-then-lock-eq1 : goal.failed-requires-then-lock-eq1
-unfolding lock_block
-failed-requires-then-lock-eq1 c =
-    search rules
 
 pub returns-then-lock-eq1 : goal.returns-then-lock-eq1
 unfolding lock_block

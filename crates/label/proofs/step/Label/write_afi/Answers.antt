@@ -1,26 +1,15 @@
 -- The one test of the definition; bit 0 is what a division by 1 leaves.
 -- Assumes nothing.
 use mathlib.Core.Path.{◌∙◌}
-use borrow.Author.Rules.{rules}
 use borrow.Author.Tests.{eq-eqb, ne_eqb}
 use native.Mathlib.Nat.{div-one}
 use Rattle.label.specs.Step.{write_afi}
 use Rattle.label.proofs.step.Label.write_afi.Goals as goal
 
-pub failed-requires : goal.failed-requires
-unfolding write_afi
-failed-requires c =
-    search rules
-
 pub returns-then-self-eq1 : goal.returns-then-self-eq1
 unfolding write_afi
 returns-then-self-eq1 c =
     c.failed.ensures ∙ rw (div-one, eq-eqb _ _ c.if-self-eq1.true)
-
-pub done-requires : goal.done-requires
-unfolding write_afi
-done-requires c =
-    search rules
 
 pub returns : goal.returns
 unfolding write_afi
