@@ -12,11 +12,11 @@ use Rattle.request.specs.declared.chip.Order.TheVariants as o
 use Rattle.chip.specs.declared.step.Chip.{Chip}
 use Rattle.chip.specs.declared.step.Answer.{Answer}
 use Rattle.chip.specs.declared.step.Answer.TheVariants as a
-use Rattle.chip.specs.declared.step.Work.TheVariants as w
+use Rattle.std.specs.Prelude.{Some}
 use Rattle.chip.specs.declared.step.Stepped.{Stepped}
 use Rattle.chip.specs.Write.{locked, written, reloads}
 use Rattle.frame.proofs.Bools.{or_either, if_either, not_other}
-use Rattle.chip.specs.Step.{with, told, silent, chosen, field_off, field_on, initiate, pcall, marker, leave, select, read, uid, write, act}
+use Rattle.chip.specs.Step.{with, put, told, silent, chosen, field_off, field_on, initiate, pcall, marker, leave, select, read, uid, write, act}
 
 -- ---- the next chip
 
@@ -36,7 +36,7 @@ pub data Next (d : ℕ) (c : Chip) : Chip → Type 0 where
 pub data Steps (order : Order) (d old s : ℕ) (c : Chip) : Stepped → Type 0 where
   quiet : (next : Chip) (answer : Answer) → Next d c next → Steps order d old s c (told answer next)
   wrote : (n v : ℕ) (next : Chip) → order ≡ o.Write n v → c.state ≡ 3 → locked s n ≡ false → Next d c next
-      → Steps order d old s c (record { next = next; answer = a.Silent; work = w.Put n (written n old v c.reload) })
+      → Steps order d old s c (record { next = next; answer = a.Silent; work = Some (put n (written n old v c.reload)) })
 
 above : (x n : ℕ) → x ≡ suc n → x ≡ 0 → ⊥
 above x n e z = omega arith

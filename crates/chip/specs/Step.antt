@@ -1,11 +1,11 @@
 -- Document 01, "Chips" and "Events": what a chip does with an order, and what it answers. d is the draw. Assumes nothing.
-use Rattle.std.specs.Prelude.{not, ◌||◌, ℕ, ◌+◌, ◌*◌, ◌/◌, ◌%◌, eqb, if◌then◌else◌}
+use Rattle.std.specs.Prelude.{not, ◌||◌, ℕ, ◌+◌, ◌*◌, ◌/◌, ◌%◌, eqb, Some, None, if◌then◌else◌}
 use Rattle.request.specs.declared.chip.Order.{Order}
 use Rattle.request.specs.declared.chip.Order.TheVariants as o
 use Rattle.chip.specs.declared.step.Chip.{Chip}
 use Rattle.chip.specs.declared.step.Answer.{Answer}
 use Rattle.chip.specs.declared.step.Answer.TheVariants as a
-use Rattle.chip.specs.declared.step.Work.TheVariants as w
+use Rattle.chip.specs.declared.step.Put.{Put}
 use Rattle.chip.specs.declared.step.Stepped.{Stepped}
 use Rattle.chip.specs.Write.{locked, written, reloads}
 
@@ -13,11 +13,14 @@ use Rattle.chip.specs.Write.{locked, written, reloads}
 abbrev pub with : ℕ → ℕ → ℕ → Chip → Chip
 with state id reload c = record { own = c.own; state = state; id = id; reload = reload; fixed = c.fixed }
 
+abbrev pub put : ℕ → ℕ → Put
+put n v = record { block = n; value = v }
+
 abbrev pub silent : Chip → Stepped
-silent c = record { next = c; answer = a.Silent; work = w.Nothing }
+silent c = record { next = c; answer = a.Silent; work = None }
 
 abbrev pub told : Answer → Chip → Stepped
-told answer c = record { next = c; answer = answer; work = w.Nothing }
+told answer c = record { next = c; answer = answer; work = None }
 
 -- off puts a tag in state 0 and clears Chip_ID and reload
 unfoldable pub field_off : Chip → Stepped
@@ -79,7 +82,7 @@ write n v old s c =
     else record {
       next = (if reloads n old v then with c.state c.id 1 c else c);
       answer = a.Silent;
-      work = w.Put n (written n old v c.reload);
+      work = Some (put n (written n old v c.reload));
     }
 
 -- old is the block that a write names, s is block 255; 0F: 3 to 5; 0C: 3 to 2

@@ -12,11 +12,11 @@ use lib.ListN.{length, get_or}
 use lib.Seq.{sets}
 use borrow.Author.Tests.{eqb-true, eqb-false, eq-eqb, ne_eqb, ltb-false, le-ltb, not-true}
 use Rattle.frame.specs.Number.{num, bytes_of, part, Bytes}
+use Rattle.frame.specs.declared.verdict.Rule.TheVariants.{Body}
 use Rattle.frame.specs.Judge.{fine}
-use Rattle.frame.specs.declared.verdict.Verdict.{Verdict}
 use Rattle.frame.proofs.Lists.{part_values, values_from}
 use Rattle.frame.proofs.Numbers.{length_bytes, bytes_small}
-use Rattle.frame.proofs.Judge.{if_fine, not_none}
+use Rattle.frame.proofs.Judge.{if_fine}
 use Rattle.frame.proofs.Bools.{and_off, off_and, or_off, off_or, if_either, below_or_not, not_other}
 use Rattle.frame.proofs.Stores.{sets_off, sets_on, bytes_three, bytes_sets}
 use Rattle.request.specs.declared.chip.Order.{Order}
@@ -137,13 +137,13 @@ pub record ChipFine (b : List ℕ) : Type 0 where
   pub option : get_or b 79 0 ≤ 1
   pub fixes : get_or b 79 0 ≡ 1 → (get_or b 76 0 ≡ 0 → ⊥) → get_or b 77 0 ≡ get_or b 64 0
 
-pub rules_fine : (b : List ℕ) → (chip_rules b).number ≡ 0 → ChipFine b
+pub rules_fine : (b : List ℕ) → chip_rules b ≡ fine → ChipFine b
 unfolding chip_rules
 rules_fine b e =
-    let p = if_fine _ 13 76 _ (not_none 12) e in
-    let q = if_fine _ 13 77 _ (not_none 12) p.1 in
-    let r = if_fine _ 13 78 _ (not_none 12) q.1 in
-    let u = if_fine _ 13 79 _ (not_none 12) r.1 in
+    let p = if_fine _ Body 76 _ e in
+    let q = if_fine _ Body 77 _ p.1 in
+    let r = if_fine _ Body 78 _ q.1 in
+    let u = if_fine _ Body 79 _ r.1 in
     let x = or_off _ _ r.0 in
     let y = or_off _ _ u.0 in
     record {
@@ -307,6 +307,6 @@ next_fine order d b l bs h =
     (work_off w (store_of b x) 79 (omega arith) ∙ store_off b x 79 (inr (omega arith)) ∙ sym p.1)
     (fine_next d c x k n)
 
-pub next_keeps : (order : Order) (d : ℕ) (b : List ℕ) → length b ≡ 80 → Bytes b → (chip_rules b).number ≡ 0 → (chip_rules (next_chip order d b)).number ≡ 0
+pub next_keeps : (order : Order) (d : ℕ) (b : List ℕ) → length b ≡ 80 → Bytes b → chip_rules b ≡ fine → chip_rules (next_chip order d b) ≡ fine
 next_keeps order d b l bs e =
-    ap (λ (v : Verdict). v.number) (fine_rules (next_chip order d b) (next_fine order d b l bs (rules_fine b e)))
+    fine_rules (next_chip order d b) (next_fine order d b l bs (rules_fine b e))

@@ -16,8 +16,8 @@ use Rattle.frame.proofs.Stores.{sets_off, sets_on, part_off}
 use Rattle.request.specs.declared.chip.Order.{Order}
 use Rattle.request.specs.declared.chip.Order.TheVariants as o
 use Rattle.chip.specs.declared.step.Chip.{Chip}
-use Rattle.chip.specs.declared.step.Work.{Work}
-use Rattle.chip.specs.declared.step.Work.TheVariants as w
+use Rattle.std.specs.Prelude.{Option, None, Some}
+use Rattle.chip.specs.declared.step.Put.{Put}
 use Rattle.chip.specs.declared.step.Stepped.{Stepped}
 use Rattle.chip.specs.Write.{locked, written}
 use Rattle.chip.proofs.StepWays.{Next, Steps, quiet, wrote, steps}
@@ -68,16 +68,17 @@ store_load b = rw (set-get_or b 76 0, set-get_or b 77 0, set-get_or b 78 0)
 
 -- ---- a block written
 
-pub work_length : (x : Work) (b : List ℕ) → length (worked x b) ≡ length b
+pub work_length : (x : Option Put) (b : List ℕ) → length (worked x b) ≡ length b
 unfolding worked
-work_length w.Nothing b = refl
-work_length (w.Put n v) b = length-sets b (place_of n) (bytes_of 4 v)
+work_length None b = refl
+work_length (Some p) b = length-sets b (place_of p.block) (bytes_of 4 p.value)
 
 -- nothing from the UID on
-pub work_off : (x : Work) (b : List ℕ) (i : ℕ) → 68 ≤ i → get_or (worked x b) i 0 ≡ get_or b i 0
+pub work_off : (x : Option Put) (b : List ℕ) (i : ℕ) → 68 ≤ i → get_or (worked x b) i 0 ≡ get_or b i 0
 unfolding worked
-work_off w.Nothing b i h = refl
-work_off (w.Put n v) b i h = sets_off b (bytes_of 4 v) (place_of n) i (inr (omega (arith, place_fits n, length_bytes 4 v)))
+work_off None b i h = refl
+work_off (Some p) b i h =
+    sets_off b (bytes_of 4 p.value) (place_of p.block) i (inr (omega (arith, place_fits p.block, length_bytes 4 p.value)))
 
 -- ---- a step of a body: to show P of the next body, show it where a chip is stored, and where a block is written besides
 module _ (P : List ℕ → Type 0) (order : Order) (d : ℕ) (b : List ℕ) where

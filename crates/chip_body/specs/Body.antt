@@ -1,15 +1,14 @@
 -- Document 01, "Rack file": the chip body of 80 bytes, its rules and the step on it. Assumes nothing.
-use Rattle.std.specs.Prelude.{not, ◌&&◌, ◌||◌, List, [], ◌∷◌, ℕ, ◌*◌, eqb, ltb, get_or, if◌then◌else◌}
+use Rattle.std.specs.Prelude.{not, ◌&&◌, ◌||◌, List, [], ◌∷◌, ℕ, ◌*◌, eqb, ltb, get_or, Option, None, Some, if◌then◌else◌}
 use Rattle.std.proofs.lemmas.List.Edits.{sets}
 use Rattle.frame.specs.Number.{num, bytes_of, part}
-use Rattle.frame.specs.Judge.{fine, bad}
-use Rattle.frame.specs.declared.verdict.Verdict.{Verdict}
+use Rattle.frame.specs.declared.verdict.Rule.TheVariants.{Body}
+use Rattle.frame.specs.Judge.{Verdict, fine, bad}
 use Rattle.request.specs.declared.chip.Order.{Order}
 use Rattle.request.specs.declared.chip.Order.TheVariants as o
 use Rattle.chip.specs.declared.step.Chip.{Chip}
 use Rattle.chip.specs.declared.step.Answer.{Answer}
-use Rattle.chip.specs.declared.step.Work.{Work}
-use Rattle.chip.specs.declared.step.Work.TheVariants as w
+use Rattle.chip.specs.declared.step.Put.{Put}
 use Rattle.chip.specs.declared.step.Stepped.{Stepped}
 use Rattle.chip.specs.Step.{act}
 
@@ -24,10 +23,10 @@ store_of b c = sets b 76 (c.state ∷ c.id ∷ c.reload ∷ [])
 -- option 0 or 1, and with it Chip_ID in other states is byte 64. A rule that joins fields is placed at the later one.
 unfoldable pub chip_rules : List ℕ → Verdict
 chip_rules b =
-    if ltb 5 (get_or b 76 0) then bad 13 76
-    else if eqb (get_or b 76 0) 0 && not (eqb (get_or b 77 0) 0) then bad 13 77
-    else if ltb 1 (get_or b 78 0) || (eqb (get_or b 78 0) 1 && not (eqb (get_or b 76 0) 3)) then bad 13 78
-    else if ltb 1 (get_or b 79 0) || (eqb (get_or b 79 0) 1 && (not (eqb (get_or b 76 0) 0) && not (eqb (get_or b 77 0) (get_or b 64 0)))) then bad 13 79
+    if ltb 5 (get_or b 76 0) then bad Body 76
+    else if eqb (get_or b 76 0) 0 && not (eqb (get_or b 77 0) 0) then bad Body 77
+    else if ltb 1 (get_or b 78 0) || (eqb (get_or b 78 0) 1 && not (eqb (get_or b 76 0) 3)) then bad Body 78
+    else if ltb 1 (get_or b 79 0) || (eqb (get_or b 79 0) 1 && (not (eqb (get_or b 76 0) 0) && not (eqb (get_or b 77 0) (get_or b 64 0)))) then bad Body 79
     else fine
 
 -- blocks 0 to 15 at 0 to 63, block 255 at 64
@@ -59,9 +58,10 @@ named (o.Read n) b = 0
 named o.Uid b = 0
 named (o.Write n v) b = block_of n b
 
-unfoldable pub worked : Work → List ℕ → List ℕ
-worked w.Nothing b = b
-worked (w.Put n v) b = sets b (place_of n) (bytes_of 4 v)
+-- a block is written, or none
+unfoldable pub worked : Option Put → List ℕ → List ℕ
+worked None b = b
+worked (Some put) b = sets b (place_of put.block) (bytes_of 4 put.value)
 
 -- the step on a body: old body, order and draw alone decide
 unfoldable pub stepped : Order → ℕ → List ℕ → Stepped

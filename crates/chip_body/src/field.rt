@@ -2,6 +2,7 @@
 ghost use Rattle.std.specs.Prelude.{◌≡◌};
 ghost use Rattle.chip_body.specs.Field.{field_at};
 
+// A chip's own: it shares no field but the state with a label, whose names and places are its own.
 #[derive(Clone, Copy)]
 pub enum Field {
     // No rule.
@@ -13,20 +14,15 @@ pub enum Field {
 }
 
 // What a place holds.
+#[tactic(auto, unfolding(crate::specs::Field::field_at))]
 pub fn field_at(place: usize) -> Field
     ensures { result ≡ field_at place }
 {
-    if place == 76 {
-        return Field::State;
+    match place {
+        76 => Field::State,
+        77 => Field::Id,
+        78 => Field::Reload,
+        79 => Field::Fixed,
+        _ => Field::Other,
     }
-    if place == 77 {
-        return Field::Id;
-    }
-    if place == 78 {
-        return Field::Reload;
-    }
-    if place == 79 {
-        return Field::Fixed;
-    }
-    Field::Other
 }

@@ -4,16 +4,18 @@
 use mathlib.Core.Path.{◌≡◌, refl, sym, subst, ap, ap₂, ◌∙◌}
 use mathlib.Core.Bool.{Bool, true, false}
 use mathlib.Core.List.{List, [], ◌∷◌, ◌++◌}
-use Prim.Native.Nat.{ℕ, zero, suc, ◌+◌, ◌-◌, ◌*◌, ◌/◌, ◌%◌, ◌^◌, ◌≤◌, ◌<◌}
-use native.Mathlib.Nat.{mod-lt, zero-lt-suc, not-suc-le-zero, le_of_suc-le-suc, mul-one, add_comm}
+use Prim.Native.Nat.{ℕ, zero, suc, ◌+◌, ◌*◌, ◌/◌, ◌%◌, ◌^◌, ◌≤◌, ◌<◌}
+use native.Mathlib.Nat.{mod-lt, zero-lt-suc, not-suc-le-zero, le_of_suc-le-suc, mul-one, add_comm, add-zero}
 use native.Mathlib.Numerals.{add-one}
 use native.Mathlib.Omega.{arith}
 use lib.Dec.{lit<}
-use lib.ListN.{length, take, get_or}
-use lib.Seq.{take-suc, take_all}
+use lib.ListN.{length, take, drop, get_or}
+use lib.Seq.{take-suc, take_all, get_or-take, get_or-drop}
 use lib.Bits.{bit_xor, differ, xor_zero_r, xor_lt, xor_self, xor_comm, xor_shifted, shifted_half, shifted_even}
+use Rattle.std.specs.Simd.{first_chunks}
 use Rattle.frame.specs.Number.{Bytes}
 use Rattle.frame.specs.CheckSum.{polynomial, crc_bit, crc_bits, crc_byte, crc_run, crc_end, crc_with}
+use Rattle.frame.proofs.Lists.{drop_head}
 use Rattle.frame.proofs.Linear.{Linear, itself, plus, after, down, low, up, by_powers}
 use Rattle.frame.proofs.Xor.{xor_half, xor_odd, xor_swap, xor_assoc, xor_again, xor_eq, xor_ones}
 
@@ -174,27 +176,40 @@ two_bytes r lo hi h =
     ∙ ap (bit_xor (crc_bits 8 (bit_xor r lo))) (bits_shifted 8 hi)))
 
 -- for a loop by pairs of bytes: the register r over k pairs, and o after one pair more
-pub run_pair : {r o : ℕ} (start : ℕ) (s : List ℕ) (k : ℕ) → Bytes s → r ≡ crc_run start (take (2 * k) s)
-    → o ≡ crc_bits 16 (bit_xor r (get_or s (2 * k) 0 + get_or s (2 * k + 1) 0 * 256)) → k < length s / 2 → o ≡ crc_run start (take (2 * (k + 1)) s)
+-- the slice as pairs of bytes: pair k has bytes 2 k and 2 k + 1
+pair_at : (n k j : ℕ) (s : List ℕ) → k < n → j < 2 → get_or (get_or (first_chunks 2 n s) k []) j 0 ≡ get_or s (2 * k + j) 0
+pair_at zero k j s h l = absurd (omega arith)
+pair_at (suc n) zero j s h l = get_or-take 2 s j 0 l ∙ ap (λ (i : ℕ). get_or s i 0) (omega arith)
+pair_at (suc n) (suc k) j s h l =
+    pair_at n k j (drop 2 s) (omega arith) l ∙ get_or-drop 2 s (2 * k + j) 0 ∙ ap (λ (i : ℕ). get_or s i 0) (omega arith)
+
+-- one more pair ..
+pub run_pair : {r o : ℕ} (start : ℕ) (s : List ℕ) {pairs : List (List ℕ)} (k : ℕ) → Bytes s → pairs ≡ first_chunks 2 (length s / 2) s
+    → r ≡ crc_run start (take (2 * k) s)
+    → o ≡ crc_bits 16 (bit_xor r (get_or (get_or pairs k []) 0 0 + get_or (get_or pairs k []) 1 0 * 256))
+    → k < length s / 2
+    → o ≡ crc_run start (take (2 * (k + 1)) s)
 unfolding crc_run
-run_pair {r} {o} start s k bs e f h =
+run_pair {r} {o} start s {pairs} k bs c e f h =
     let i = 2 * k in
     let n : 2 * (k + 1) ≡ i + 1 + 1 = omega arith in
+    let lo : get_or (get_or pairs k []) 0 0 ≡ get_or s i 0 = rw c (simp add-zero at (pair_at (length s / 2) k 0 s h (omega arith))) in
+    let hi : get_or (get_or pairs k []) 1 0 ≡ get_or s (i + 1) 0 = rw c (pair_at (length s / 2) k 1 s h (omega arith)) in
     rw n
-    (f
+    (rw (lo, hi) at f
     ∙ sym (two_bytes r (get_or s i 0) (get_or s (i + 1) 0) (bs i))
     ∙ run_more start s (i + 1) (run_more start s i e refl (omega arith)) refl (omega arith))
 
--- at the loop's end, where no byte is left ..
+-- .. and at the end no byte is left, or one
 pub run_pairs : {r : ℕ} (start : ℕ) (s : List ℕ) (k : ℕ) → r ≡ crc_run start (take (2 * k) s) → length s / 2 ≤ k → length s % 2 ≡ 0 → r ≡ crc_run start s
 run_pairs start s k e h m = run_all start s (2 * k) e (omega arith)
 
--- .. and where one is
-pub run_last : {r o : ℕ} (start : ℕ) (s : List ℕ) (k : ℕ) → k ≤ length s / 2 → r ≡ crc_run start (take (2 * k) s) → length s / 2 ≤ k
-    → (length s % 2 ≡ 0 → ⊥) → o ≡ crc_byte r (get_or s (length s - 1) 0) → o ≡ crc_run start s
-run_last {r} {o} start s k l e h m f =
-    let n : length s - 1 ≡ 2 * k = omega arith in
-    run_all start s (2 * k + 1) (run_more start s (2 * k) e (rw n at f) (omega arith)) (omega arith)
+pub run_last : {r o : ℕ} (start : ℕ) (s : List ℕ) {rest : List ℕ} (k : ℕ) → rest ≡ drop (length s / 2 * 2) s → k ≤ length s / 2
+    → r ≡ crc_run start (take (2 * k) s) → length s / 2 ≤ k → 1 ≤ length s % 2 → o ≡ crc_byte r (get_or rest 0 0) → o ≡ crc_run start s
+run_last {r} {o} start s {rest} k d l e h m f =
+    let n : length s / 2 * 2 ≡ 2 * k = omega arith in
+    let b : get_or rest 0 0 ≡ get_or s (2 * k) 0 = rw (d, n) (drop_head (2 * k) s) in
+    run_all start s (2 * k + 1) (run_more start s (2 * k) e (rw b at f) (omega arith)) (omega arith)
 
 -- what inverting adds
 abbrev flip : Bool → ℕ

@@ -2,7 +2,7 @@
 -- Assumes nothing.
 use mathlib.Core.Path.{◌≡◌, sym, subst, ap, ap₂, ◌∙◌}
 use mathlib.Core.Logic.{◌↔◌}
-use mathlib.Core.Bool.{Bool, true, false, ◌&&◌}
+use mathlib.Core.Bool.{false, ◌&&◌}
 use mathlib.Core.List.{List}
 use Prim.Native.Nat.{ℕ, ◌+◌, ◌*◌, ◌/◌, ◌%◌, ◌^◌, ◌≤◌, ◌<◌}
 use native.Mathlib.Nat.{zero-add, zero-mul, one-mul, mod-lt, mod-eq_of_lt, div-eq_of_lt, div-add-mod', lt_of_lt_of_le}
@@ -17,28 +17,18 @@ use Rattle.frame.proofs.Bools.{bool_same, and_both}
 pub one_shl : (bits : ℕ) → bits < 64 → (1 * 2 ^ bits) % 2 ^ 64 ≡ 2 ^ bits
 one_shl bits h = ap (λ (x : ℕ). x % 2 ^ 64) (one-mul (2 ^ bits)) ∙ mod-eq_of_lt (pow-lt h)
 
--- below 2 ^ k, the remainder by 2 ^ bits changes nothing where bits is k or more
-pub low_all : (k bits n : ℕ) → n < 2 ^ k → k ≤ bits → n % 2 ^ bits ≡ n
-low_all k bits n h l = mod-eq_of_lt (lt_of_lt_of_le h (pow_mono l))
+-- of a number of 64 bits the low ones are all where they are 64 or more, and none is above them
+pub low_whole : (bits n : ℕ) → n < 2 ^ 64 → 64 ≤ bits → n ≡ n % 2 ^ bits
+low_whole bits n h l = sym (mod-eq_of_lt (lt_of_lt_of_le h (pow_mono l)))
 
-pub high_none : (k bits n : ℕ) → n < 2 ^ k → k ≤ bits → n / 2 ^ bits ≡ 0
-high_none k bits n h l = div-eq_of_lt (lt_of_lt_of_le h (pow_mono l))
+pub high_zeros : (bits n : ℕ) → n < 2 ^ 64 → 64 ≤ bits → 0 ≡ n / 2 ^ bits
+high_zeros bits n h l = sym (div-eq_of_lt (lt_of_lt_of_le h (pow_mono l)))
 
 -- nothing above the low bits: the number is below their power
 pub high_zero : (n bits : ℕ) → n / 2 ^ bits ≡ 0 → n < 2 ^ bits
 high_zero n bits e =
     let q = rw (e, zero-mul (2 ^ bits), zero-add (n % 2 ^ bits)) at (div-add-mod' n (2 ^ bits)) in
     subst (λ (x : ℕ). x < 2 ^ bits) q (mod-lt n (pow_pos bits))
-
--- the two ways out of `ends_in_slot`
-pub slot_yes : (u : List ℕ) (mask bits slot : ℕ) {t : Bool} {n h s : ℕ} → t ≡ ends_in u mask bits → t ≡ true → n ≡ num u → h ≡ n / 2 ^ bits → s ≡ slot
-    → eqb (h % 16) s ≡ ends_in_slot u mask bits slot
-unfolding ends_in_slot
-slot_yes u mask bits slot e y a b d = rw (b, a, d, ← e, y)
-
-pub slot_no : (u : List ℕ) (mask bits slot : ℕ) {t : Bool} → t ≡ ends_in u mask bits → t ≡ false → false ≡ ends_in_slot u mask bits slot
-unfolding ends_in_slot
-slot_no u mask bits slot e y = rw (← e, y)
 
 -- the low w bits and the k bits above them, each by itself or both as one number
 both_parts : (n lo hi k w : ℕ) → lo < 2 ^ w → (n % 2 ^ (k + w) ≡ hi * 2 ^ w + lo) ↔ ((n % 2 ^ w ≡ lo) × (n / 2 ^ w % 2 ^ k ≡ hi))

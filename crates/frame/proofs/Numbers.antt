@@ -1,14 +1,14 @@
 -- Bytes and numbers, there and back, over any width: a number below 256 ^ k is k digits to base 256, by induction on the bytes.
 -- Assumes nothing.
 use mathlib.Core.Path.{◌≡◌, refl, sym, ap, ap₂, ◌∙◌, subst}
-use mathlib.Core.List.{List, [], ◌∷◌, ◌++◌}
-use Prim.Native.Nat.{ℕ, zero, suc, ◌+◌, ◌-◌, ◌*◌, ◌/◌, ◌%◌, ◌^◌, ◌≤◌, ◌<◌}
+use mathlib.Core.List.{List, [], ◌∷◌, ◌++◌, append-nil, append_assoc}
+use Prim.Native.Nat.{ℕ, zero, suc, ◌+◌, ◌*◌, ◌/◌, ◌%◌, ◌^◌, ◌≤◌, ◌<◌}
 use native.Mathlib.Nat.{zero-lt-suc, pow-suc, mod-one, mod-lt, mod-eq_of_lt, add_comm}
 use native.Mathlib.Omega.{arith}
 use lib.Arith.{mod-mul}
 use lib.Dec.{lit<}
-use lib.ListN.{length, get_or, take, drop, length-drop, length-take}
-use lib.Seq.{get_or-drop, drop-cons}
+use lib.ListN.{length, take, drop, length-append, length-take}
+use lib.Seq.{get_or-drop, drop_at}
 use Rattle.frame.specs.Number.{num, bytes_of, part, Bytes}
 
 -- ---- lists of bytes
@@ -84,20 +84,33 @@ bytes_num s h =
     num_inj (bytes_of (length s) (num s)) s (bytes_small (length s) (num s)) h (length_bytes (length s) (num s))
     (num_bytes_lt (length s) (num s) (num_lt (length s) s h (omega arith)))
 
--- ---- a loop from the last byte to the first: n is the number of what stands behind place i
+-- ---- a loop from the last byte to the first: some bytes are left, and n is the number of those behind them
 
-pub behind_lt : (s : List ℕ) (i : ℕ) {n : ℕ} → Bytes s → length s ≤ 8 → 0 < i → n ≡ num (drop i s) → n < 2 ^ 56
-behind_lt s i {n} h l z e =
-    let q : length (drop i s) ≡ length s - i = length-drop i s in
-    subst (λ (x : ℕ). x < 2 ^ 56) (sym e) (num_lt 7 (drop i s) (bytes_drop i s h) (omega arith))
+pub record Behind (s left : List ℕ) (n : ℕ) : Type 0 where
+  pub done : List ℕ
+  pub whole : s ≡ left ++ done
+  pub is : n ≡ num done
 
-pub behind_more : (s : List ℕ) (i : ℕ) {n b : ℕ} → 0 < i → i ≤ length s → n ≡ num (drop i s) → b ≡ get_or s (i - 1) 0
-    → n * 256 + b ≡ num (drop (i - 1) s)
-behind_more s i {n} {b} z l e f =
-    let q : suc (i - 1) ≡ i = omega arith in
-    let d : num (drop (i - 1) s) ≡ get_or s (i - 1) 0 + num (drop (suc (i - 1)) s) * 256 = ap num (drop-cons s (i - 1) 0 (omega arith)) in
-    let r : num (drop (suc (i - 1)) s) ≡ num (drop i s) = ap (λ (k : ℕ). num (drop k s)) q in
-    omega arith
+pub behind_none : {s left : List ℕ} → left ≡ s → Behind s left 0
+behind_none {s} {left} e = record { done = []; whole = sym (append-nil left ∙ e); is = refl }
+
+pub behind_lt : {s left : List ℕ} {n : ℕ} (more : List ℕ) (b : ℕ) → Bytes s → length s ≤ 8 → Behind s left n → left ≡ more ++ b ∷ [] → n < 2 ^ 56
+behind_lt {s} {left} {n} more b h l v e =
+    let w : length s ≡ length more + 1 + length v.done = ap length v.whole ∙ simp (length-append, e) in
+    let d : drop (length left) s ≡ v.done = rw v.whole (drop_at left v.done (length left) refl) in
+    subst (λ (x : ℕ). x < 2 ^ 56) (sym v.is) (num_lt 7 v.done (subst Bytes d (bytes_drop (length left) s h)) (omega arith))
+
+pub behind_more : {s left more : List ℕ} {n b x : ℕ} → Behind s left n → left ≡ more ++ b ∷ [] → x ≡ b → Behind s more (n * 256 + x)
+behind_more {s} {left} {more} {n} {b} {x} v e f =
+    record {
+      done = b ∷ v.done;
+      whole = v.whole ∙ rw (e, append_assoc);
+      is = rw (v.is, f, add_comm);
+    }
+
+pub behind_all : {s left : List ℕ} {n : ℕ} → Behind s left n → length left ≡ 0 → n ≡ num s
+behind_all {s} {left = []} {n} v e = v.is ∙ ap num (sym v.whole)
+behind_all {s} {left = b ∷ left} {n} v e = absurd (omega arith)
 
 -- four bytes make a number below 2 ^ 32
 pub word_lt : (at : ℕ) (s : List ℕ) → Bytes s → num (part at 4 s) < 2 ^ 32

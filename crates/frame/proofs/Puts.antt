@@ -4,13 +4,14 @@
 -- Assumes nothing.
 use mathlib.Core.Path.{◌≡◌, refl, ap, sym, ◌∙◌}
 use mathlib.Core.Bool.{Bool, true}
-use mathlib.Core.List.{List, [], ◌∷◌, ◌++◌}
+use mathlib.Core.List.{List, [], ◌∷◌, ◌++◌, append_assoc}
 use Prim.Native.Nat.{ℕ, suc, ◌+◌, ◌-◌, ◌/◌, ◌%◌, ◌≤◌, ◌<◌}
-use native.Mathlib.Nat.{add-zero, zero-add, add-suc, suc-add}
+use native.Mathlib.Nat.{sub-zero, add-zero, zero-add, add-suc, suc-add}
 use native.Mathlib.Numerals.{add-one}
 use native.Mathlib.Omega.{arith}
-use lib.ListN.{length, take, drop, get_or, set, length-append, length-take, drop_of_length-le}
-use lib.Seq.{sets, sets-eq, drop-cons, get_or-take, take_at, length-take-le}
+use lib.ListN.{length, take, drop, set, length-append}
+use lib.Seq.{sets, sets-eq, take_at, length-take-le, drop-drop}
+use borrow.Rule.Slice.PartMut.{put_mid}
 use Rattle.frame.specs.Number.{bytes_of, part}
 use Rattle.frame.specs.CheckSum.{crc_with, crc_of, framed_with, framed}
 use Rattle.frame.proofs.Numbers.{length_bytes}
@@ -32,14 +33,22 @@ bytes_next k i w h = let e : k - i ≡ suc (k - (i + 1)) = omega arith in rw e
 pub bytes_none : (k i w : ℕ) → k ≤ i → bytes_of (k - i) w ≡ []
 bytes_none k i w h = let e : k - i ≡ 0 = omega arith in rw e
 
--- what is left of the first n of a list, where some are left, and where none is
-pub left_next : (src : List ℕ) (n i : ℕ) → i < n → n ≤ length src → drop i (take n src) ≡ get_or src i 0 ∷ drop (i + 1) (take n src)
-left_next src n i h hn =
-    let l : i < length (take n src) = rw (length-take-le n src) h in
-    rw add-one (drop-cons (take n src) i 0 l ∙ rw (get_or-take n src i 0 h))
+-- a loop that writes a number's bytes: where it starts, a turn, and its end
+pub number_none : (out : List ℕ) (at k v : ℕ) → sets out (at + 0) (bytes_of (k - 0) v) ≡ sets out at (bytes_of k v)
+number_none out at k v = rw (add-zero, sub-zero)
 
-pub left_none : (src : List ℕ) (n i : ℕ) → n ≤ i → drop i (take n src) ≡ []
-left_none src n i h = drop_of_length-le (take n src) {i = i} (rw length-take (omega arith))
+pub number_more : (out fin : List ℕ) (at k i w : ℕ) → sets out (at + i) (bytes_of (k - i) w) ≡ fin → i < k
+    → sets (set out (at + i) (w % 256)) (at + (i + 1)) (bytes_of (k - (i + 1)) (w / 256)) ≡ fin
+number_more out fin at k i w e h = one out fin _ _ (at + i) (at + (i + 1)) (w % 256) (bytes_next k i w h) (omega arith) e
+
+pub number_all : (out fin : List ℕ) (at k i w : ℕ) → sets out (at + i) (bytes_of (k - i) w) ≡ fin → k ≤ i → out ≡ fin
+number_all out fin at k i w e h = none out fin _ (at + i) (bytes_none k i w h) e
+
+-- a part written over by a copy
+pub copied : (out src new : List ℕ) (at n k : ℕ) → at + n ≤ length out → n ≤ length src → k ≡ n → new ≡ take n src → put_mid at k out new ≡ sets out at (take n src)
+copied out src new at n k h l e f =
+    let q : length (take n src) ≡ n = length-take-le n src l in
+    rw (e, f) (sym (sets-eq (take n src) out at (rw q h) ∙ rw (q, append_assoc, drop-drop n at)))
 
 -- ---- runs of stores
 

@@ -4,3 +4,4 @@ pub mod Number
 pub mod CheckSum
 pub mod Ending
 pub mod Judge
+pub mod Refusal

@@ -32,17 +32,15 @@ fn run_wide(start: u32, s: &[u8]) -> u32
     requires { start < 2 ^ 16 }
     ensures { (result ≡ crc_run start s.now) × (result < 2 ^ 16) }
 {
-    let pairs = s.len() / 2;
+    let (pairs, rest) = s.as_chunks::<2>();
     let mut r = start;
-    let mut k = 0;
-    while k < pairs {
-        r = two_bytes(r, s[2 * k], s[2 * k + 1]);
-        k += 1;
+    for pair in pairs {
+        r = two_bytes(r, pair[0], pair[1]);
     }
-    if s.len() % 2 == 0 {
-        return r;
+    match rest {
+        [last] => one_byte(r, *last),
+        _ => r,
     }
-    one_byte(r, s[s.len() - 1])
 }
 
 // The register after the bytes of s.
@@ -53,28 +51,20 @@ pub fn run(start: u16, s: &[u8]) -> u16
 }
 
 // The check sum of s from a start, inverted or not.
+#[tactic(auto, unfolding(crate::specs::CheckSum::crc_with))]
 pub fn sum_with(start: u16, inverted: bool, s: &[u8]) -> u16
     ensures { result ≡ crc_with start inverted s.now }
 {
     let r = run(start, s);
-    if inverted {
-        return 65535 - r;
-    }
-    r
+    if inverted { 65535 - r } else { r }
 }
 
 // Whether s is a frame that ends in its check sum: whether, run through, it leaves the residue.
 pub fn right_with(start: u16, inverted: bool, s: &[u8]) -> bool
     ensures { result ≡ right_with start inverted s.now }
 {
-    if s.len() < 2 {
-        return false;
-    }
-    let r = run(start, s);
-    if inverted {
-        return r == 0xF0B8;
-    }
-    r == 0
+    let residue = if inverted { 0xF0B8 } else { 0 };
+    2 <= s.len() && run(start, s) == residue
 }
 
 // Puts the check sum of the first n bytes of out behind them, and returns the place behind it.

@@ -5,5 +5,6 @@ pub mod check_sum;
 pub mod number;
 pub mod part;
 pub mod put;
+pub mod refusal;
 pub mod uid;
 pub mod verdict;

@@ -1,3 +1,3 @@
 -- The laws of what a label does.
 pub mod StepFamily
-pub mod StepOthers
+pub mod StepLocks

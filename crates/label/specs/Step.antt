@@ -1,5 +1,5 @@
 -- Document 01, "Labels" and "Events", and document 02, P1 and P2: what a label does with a request, and what it answers. Assumes nothing.
-use Rattle.std.specs.Prelude.{Bool, true, false, not, ◌&&◌, ◌||◌, List, ℕ, ◌+◌, ◌/◌, ◌%◌, eqb, ltb, if◌then◌else◌}
+use Rattle.std.specs.Prelude.{Bool, true, false, not, ◌&&◌, ◌||◌, List, ℕ, ◌+◌, ◌/◌, ◌%◌, eqb, ltb, None, Some, if◌then◌else◌}
 use Rattle.frame.specs.Choose.{bit, set?}
 use Rattle.frame.specs.Number.{num}
 use Rattle.frame.specs.Ending.{ends_in, ends_in_slot}
@@ -61,7 +61,7 @@ ended l = with_slot 255 0 0 l
 -- ---- answers
 
 abbrev pub told : Answer → Label → Stepped
-told answer l = record { next = l; answer = answer; work = w.Nothing }
+told answer l = record { next = l; answer = answer; work = None }
 
 abbrev pub silent : Label → Stepped
 silent l = told a.Silent l
@@ -151,13 +151,13 @@ write_block n option count lock l =
     else if option then failed 0x03 l
     else if ltb l.blocks n then failed 0x10 l
     else if eqb lock 1 then failed 0x12 l
-    else record { next = l; answer = a.Done; work = w.Write n }
+    else record { next = l; answer = a.Done; work = Some (w.Write n) }
 
 unfoldable pub lock_block : ℕ → ℕ → Label → Stepped
 lock_block n lock l =
     if ltb l.blocks n then failed 0x10 l
     else if eqb lock 1 then failed 0x11 l
-    else record { next = l; answer = a.Done; work = w.Lock n }
+    else record { next = l; answer = a.Done; work = Some (w.Lock n) }
 
 -- locks: bit 0 AFI, bit 1 DSFID
 unfoldable pub write_afi : ℕ → Label → Stepped

@@ -1,10 +1,11 @@
 // What a label does with a request: each step takes the old label and gives back the new one, what it answers and what is written.
-ghost use Rattle.std.specs.Prelude.{◌≡◌, ◌+◌, ltb};
+ghost use Rattle.std.specs.Prelude.{◌≡◌, ◌+◌, ◌^◌, ◌≤◌, ltb, if◌then◌else◌};
+ghost use Rattle.frame.specs.Choose.{bit, set?};
 ghost use Rattle.request.specs.declared.label.Family.TheVariants.{Only};
 ghost use Rattle.request.specs.Label.{both};
-ghost use Rattle.label.specs.Step.{told, with_slot, awake, silent, done, failed, field_off, field_on, ended, passes, ready, heeds, turn, opens, inventory};
-ghost use Rattle.label.specs.Step.{end_of_frame, acts, perform, passed, asked, faulted, act, with_state};
-ghost use Rattle.label.specs.Step.{read_block, read_blocks, read_locks, write_block, lock_block, write_afi, lock_afi, write_dsfid, lock_dsfid};
+ghost use Rattle.label.specs.Step.{awake, told, with_slot, silent, done, failed, field_off, field_on, ended, passes, ready, heeds, turn, opens, inventory};
+ghost use Rattle.label.specs.Step.{end_of_frame, acts, perform, passed, asked, faulted, act, with_state, with_locks};
+ghost use Rattle.label.specs.Step.{read_blocks, write_block, lock_block};
 
 use frame::uid::{ends_in, ends_in_slot, same_uid};
 use request::label::{Call, Family, Request, Target};
@@ -20,6 +21,7 @@ pub struct Label {
     pub blocks: u8,
     pub size: u8,
     pub ic: u8,
+    // A number: a body is loaded and stored byte for byte, one that breaks the rules too (`load_of`, `store_of`).
     pub state: u8,
     pub slot: u8,
     pub bits: u8,
@@ -44,32 +46,32 @@ pub enum Answer {
 // What is written beside the label's first bytes: a block becomes the bytes sent, or it is locked.
 #[derive(Clone, Copy)]
 pub enum Work {
-    Nothing,
     Write(u8),
     Lock(u8),
 }
 
+// The next label, what it answers, and what else is written, if anything.
 #[derive(Clone, Copy)]
 pub struct Stepped {
     pub next: Label,
     pub answer: Answer,
-    pub work: Work,
+    pub work: Option<Work>,
 }
 
 // Whether a label's AFI is one that the byte f asks for: 00 asks for all, low half 0 for all of that high half.
+#[tactic(auto, using(crate::proofs::StepFamily::all_asked, crate::proofs::StepFamily::half_asked, crate::proofs::StepFamily::one_asked))]
 fn family_has(f: u8, afi: u8) -> bool
     ensures { result ≡ passes (Only f) afi }
 {
-    if f == 0 {
-        return true;
+    match f {
+        0 => true,
+        _ if f % 16 == 0 => f / 16 == afi / 16,
+        _ => f == afi,
     }
-    if f % 16 == 0 {
-        return f / 16 == afi / 16;
-    }
-    f == afi
 }
 
 // Whether a label's AFI passes a family asked for.
+#[tactic(auto, unfolding(crate::specs::Step::passes))]
 pub fn passing(family: Family, afi: u8) -> bool
     ensures { result ≡ passes family afi }
 {
@@ -86,7 +88,7 @@ impl Label {
         Stepped {
             next: self,
             answer,
-            work: Work::Nothing,
+            work: None,
         }
     }
 
@@ -127,6 +129,7 @@ impl Label {
     }
 
     // With no slot sequence.
+    #[tactic(auto, unfolding(crate::specs::Step::ended))]
     fn ended(self) -> Label
         ensures { result ≡ ended self }
     {
@@ -134,62 +137,67 @@ impl Label {
     }
 
     // Ready or selected.
+    #[tactic(auto, unfolding(crate::specs::Step::ready))]
     fn is_ready(self) -> bool
         ensures { result ≡ ready self }
     {
         self.state == 1 || self.state == 3
     }
 
+    #[tactic(auto, unfolding(crate::specs::Step::field_off))]
     fn field_off(self) -> Stepped
         ensures { result ≡ field_off self }
     {
         self.ended().put_state(0).silent()
     }
 
+    #[tactic(auto, unfolding(crate::specs::Step::field_on))]
     fn field_on(self) -> Stepped
         ensures { result ≡ field_on self }
     {
         if self.state == 0 {
-            return self.put_state(1).silent();
+            self.put_state(1).silent()
+        } else {
+            self.silent()
         }
-        self.silent()
     }
 
     // In a slot: answers if its UID ends in the mask with the slot above it.
+    #[tactic(auto, unfolding(crate::specs::Step::turn))]
     fn turn(self) -> Stepped
         ensures { result ≡ turn self }
     {
-        let u = self.uid;
-        if ends_in_slot(u, self.mask, self.bits as u32, self.slot) {
-            return self.told(Answer::Found);
+        if ends_in_slot(self.uid, self.mask, self.bits as u32, self.slot) {
+            self.told(Answer::Found)
+        } else {
+            self.silent()
         }
-        self.silent()
     }
 
     // Ready or selected, and its AFI passes.
+    #[tactic(auto, unfolding(crate::specs::Step::heeds))]
     pub fn heeds(self, family: Family) -> bool
         ensures { result ≡ heeds family self }
     {
-        if self.is_ready() {
-            return passing(family, self.afi);
-        }
-        false
+        self.is_ready() && passing(family, self.afi)
     }
 
     // Sixteen slots: slot 0 starts; one slot: answers if its UID ends in the mask.
+    #[tactic(auto, unfolding(crate::specs::Step::opens))]
     fn opens(self, sixteen: bool, bits: u8, mask: u64) -> Stepped
         ensures { result ≡ opens sixteen bits mask self }
     {
         if sixteen {
             return self.in_slot(0, bits, mask).turn();
         }
-        let u = self.uid;
-        if ends_in(u, mask, bits as u32) {
-            return self.told(Answer::Found);
+        if ends_in(self.uid, mask, bits as u32) {
+            self.told(Answer::Found)
+        } else {
+            self.silent()
         }
-        self.silent()
     }
 
+    #[tactic(auto, unfolding(crate::specs::Step::inventory))]
     fn inventory(self, family: Family, sixteen: bool, bits: u8, mask: u64) -> Stepped
         ensures { result ≡ awake (inventory family sixteen bits mask self) self }
     {
@@ -198,12 +206,14 @@ impl Label {
         }
         let l = self.ended();
         if self.heeds(family) {
-            return l.opens(sixteen, bits, mask);
+            l.opens(sixteen, bits, mask)
+        } else {
+            l.silent()
         }
-        l.silent()
     }
 
     // A bare end of frame adds one to a running slot; after 15 the sequence ends in silence.
+    #[tactic(auto, unfolding(crate::specs::Step::end_of_frame))]
     fn end_of_frame(self) -> Stepped
         ensures { result ≡ awake (end_of_frame self) self }
     {
@@ -211,67 +221,51 @@ impl Label {
             return self.silent();
         }
         if self.slot < 15 {
-            let slot = self.slot + 1;
-            return self.in_slot(slot, self.bits, self.mask).turn();
+            return self.in_slot(self.slot + 1, self.bits, self.mask).turn();
         }
         if self.slot == 15 {
-            return self.ended().silent();
+            self.ended().silent()
+        } else {
+            self.silent()
         }
-        self.silent()
     }
 
     // Whether it is meant.
+    #[tactic(auto, unfolding(crate::specs::Step::acts))]
     fn is_meant(self, to: Target, uid: [u8; 8]) -> bool
         ensures { result ≡ acts to uid self }
     {
         match to {
             Target::Everyone => self.is_ready(),
             Target::Selected => self.state == 3,
-            Target::One => {
-                let own = self.uid;
-                same_uid(uid, own)
-            }
+            Target::One => same_uid(uid, self.uid),
         }
     }
 
-    fn read_block(self, n: u8, lock: bool) -> Stepped
-        ensures { result ≡ read_block n lock self }
+    // An answer from block n and so many more behind it, the last of which may be past the end.
+    fn read(self, n: u8, more: u8, answer: Answer) -> Stepped
+        ensures { result ≡ (if ltb self.blocks (n + more) then failed 0x10 self else told answer self) }
     {
-        if self.blocks < n {
-            return self.failed(0x10);
+        if (self.blocks as u32) < n as u32 + more as u32 {
+            self.failed(0x10)
+        } else {
+            self.told(answer)
         }
-        self.told(Answer::Block(n, lock))
     }
 
-    // Whether the last of so many blocks behind block n is past the end.
-    fn ends_before(self, n: u8, more: u8) -> bool
-        ensures { result ≡ ltb self.blocks (n + more) }
-    {
-        (self.blocks as u32) < n as u32 + more as u32
-    }
-
+    #[tactic(auto, unfolding(crate::specs::Step::read_blocks))]
     fn read_blocks(self, n: u8, more: u8, lock: bool) -> Stepped
         ensures { result ≡ read_blocks n more lock self }
     {
-        if self.ends_before(n, more) {
-            return self.failed(0x10);
-        }
         if lock {
-            return self.told(Answer::LocksAndBlocks(n, more));
+            self.read(n, more, Answer::LocksAndBlocks(n, more))
+        } else {
+            self.read(n, more, Answer::Blocks(n, more))
         }
-        self.told(Answer::Blocks(n, more))
-    }
-
-    fn read_locks(self, n: u8, more: u8) -> Stepped
-        ensures { result ≡ read_locks n more self }
-    {
-        if self.ends_before(n, more) {
-            return self.failed(0x10);
-        }
-        self.told(Answer::Locks(n, more))
     }
 
     // count bytes were sent; lock is that of block n.
+    #[tactic(auto, unfolding(crate::specs::Step::write_block))]
     fn write_block(self, n: u8, option: bool, count: usize, lock: u8) -> Stepped
         ensures { result ≡ write_block n option count lock self }
     {
@@ -290,10 +284,11 @@ impl Label {
         Stepped {
             next: self,
             answer: Answer::Done,
-            work: Work::Write(n),
+            work: Some(Work::Write(n)),
         }
     }
 
+    #[tactic(auto, unfolding(crate::specs::Step::lock_block))]
     fn lock_block(self, n: u8, lock: u8) -> Stepped
         ensures { result ≡ lock_block n lock self }
     {
@@ -306,53 +301,38 @@ impl Label {
         Stepped {
             next: self,
             answer: Answer::Done,
-            work: Work::Lock(n),
+            work: Some(Work::Lock(n)),
         }
     }
 
-    fn write_afi(self, afi: u8) -> Stepped
-        ensures { result ≡ write_afi afi self }
+    // AFI or DSFID is written, locked by bit 0 or 1 of the locks; next has it written.
+    fn write_byte(self, at: u8, next: Label) -> Stepped
+        requires { at ≤ 1 }
+        ensures { result ≡ (if set? (bit at self.locks) then failed 0x12 self else done next) }
     {
-        if self.locks % 2 == 1 {
-            return self.failed(0x12);
+        if (self.locks >> at) % 2 == 1 {
+            self.failed(0x12)
+        } else {
+            next.done()
         }
-        let next = Label { afi, ..self };
-        next.done()
     }
 
-    fn lock_afi(self) -> Stepped
-        ensures { result ≡ lock_afi self }
+    // AFI or DSFID is locked, by bit 0 or 1 of the locks.
+    #[tactic(auto, using(crate::proofs::StepLocks::lock_fits))]
+    fn lock_byte(self, at: u8) -> Stepped
+        requires { at ≤ 1 }
+        ensures { result ≡ (if set? (bit at self.locks) then failed 0x11 self else done (with_locks (self.locks + 2 ^ at) self)) }
     {
-        if self.locks % 2 == 1 {
+        if (self.locks >> at) % 2 == 1 {
             return self.failed(0x11);
         }
-        let locks = self.locks + 1;
-        let next = Label { locks, ..self };
-        next.done()
-    }
-
-    fn write_dsfid(self, dsfid: u8) -> Stepped
-        ensures { result ≡ write_dsfid dsfid self }
-    {
-        if self.locks / 2 % 2 == 1 {
-            return self.failed(0x12);
-        }
-        let next = Label { dsfid, ..self };
-        next.done()
-    }
-
-    fn lock_dsfid(self) -> Stepped
-        ensures { result ≡ lock_dsfid self }
-    {
-        if self.locks / 2 % 2 == 1 {
-            return self.failed(0x11);
-        }
-        let locks = self.locks + 2;
+        let locks = self.locks + (1 << at);
         let next = Label { locks, ..self };
         next.done()
     }
 
     // What one that is meant does. The parameters come as two bytes: handed on as a struct they are kept in memory, which costs a third of a step.
+    #[tactic(auto, unfolding(crate::specs::Step::perform, crate::specs::Step::read_block, crate::specs::Step::read_blocks, crate::specs::Step::read_locks, crate::specs::Step::write_afi, crate::specs::Step::lock_afi, crate::specs::Step::write_dsfid, crate::specs::Step::lock_dsfid))]
     fn perform(
         self,
         task: Task,
@@ -366,32 +346,36 @@ impl Label {
     {
         match task {
             Task::Quiet => self.put_state(2).silent(),
-            Task::Read => self.read_block(first, option),
+            Task::Read => self.read(first, 0, Answer::Block(first, option)),
             Task::Write => self.write_block(first, option, count, lock),
             Task::Lock => self.lock_block(first, lock),
             Task::ReadMany => self.read_blocks(first, second, option),
             Task::Select => self.put_state(3).done(),
             Task::Ready => self.put_state(1).done(),
-            Task::WriteAfi => self.write_afi(first),
-            Task::LockAfi => self.lock_afi(),
-            Task::WriteDsfid => self.write_dsfid(first),
-            Task::LockDsfid => self.lock_dsfid(),
+            Task::WriteAfi => self.write_byte(0, Label { afi: first, ..self }),
+            Task::LockAfi => self.lock_byte(0),
+            Task::WriteDsfid => self.write_byte(
+                1,
+                Label {
+                    dsfid: first,
+                    ..self
+                },
+            ),
+            Task::LockDsfid => self.lock_byte(1),
             Task::Info => self.told(Answer::Info),
-            Task::Status => self.read_locks(first, second),
+            Task::Status => self.read(first, second, Answer::Locks(first, second)),
         }
     }
 
     // What one that is not meant does: Select for another UID sends state 3 to 1.
+    #[tactic(auto, unfolding(crate::specs::Step::passed, request::specs::Table::row_of))]
     fn passed(self, task: Task) -> Stepped
         ensures { result ≡ passed task self }
     {
-        let Task::Select = task else {
-            return self.silent();
-        };
-        if self.state == 3 {
-            return self.put_state(1).silent();
+        match task {
+            Task::Select if self.state == 3 => self.put_state(1).silent(),
+            _ => self.silent(),
         }
-        self.silent()
     }
 
     // A frame that no label acts on.
@@ -404,6 +388,7 @@ impl Label {
         self.ended().silent()
     }
 
+    #[tactic(auto, unfolding(crate::specs::Step::faulted))]
     fn faulted(self, to: Target, uid: [u8; 8], code: u8) -> Stepped
         ensures { result ≡ awake (faulted to uid code self) self }
     {
@@ -412,11 +397,13 @@ impl Label {
         }
         let l = self.ended();
         if self.is_meant(to, uid) {
-            return l.failed(code);
+            l.failed(code)
+        } else {
+            l.silent()
         }
-        l.silent()
     }
 
+    #[tactic(auto, unfolding(crate::specs::Step::asked))]
     fn asked(
         self,
         to: Target,
@@ -435,19 +422,19 @@ impl Label {
         }
         let l = self.ended();
         if self.is_meant(to, uid) {
-            return l.perform(task, first, second, option, count, lock);
+            l.perform(task, first, second, option, count, lock)
+        } else {
+            l.passed(task)
         }
-        l.passed(task)
     }
 
     // The label's step; count is how many bytes a write sent, lock that of the block which the first parameter names.
-    // Off and on are for every state; tags in state 0 ignore all else.
+    // Off and on are for every state; tags in state 0 ignore all else: each step tests it, since one test here for all costs a third of a step.
+    #[tactic(auto, unfolding(crate::specs::Step::act, crate::specs::Step::called))]
     pub fn act(self, r: Request, count: usize, lock: u8) -> Stepped
         ensures { result ≡ act r count lock self }
     {
-        let call = r.call;
-        let uid = r.uid;
-        match call {
+        match r.call {
             Call::Ignored => self.silent(),
             Call::Off => self.field_off(),
             Call::On => self.field_on(),
@@ -456,9 +443,9 @@ impl Label {
             Call::Inventory(family, sixteen, bits, mask) => {
                 self.inventory(family, sixteen, bits, mask)
             }
-            Call::Fault(to, code) => self.faulted(to, uid, code),
+            Call::Fault(to, code) => self.faulted(to, r.uid, code),
             Call::Do(to, task, p, option) => {
-                self.asked(to, uid, task, p.first, p.second, option, count, lock)
+                self.asked(to, r.uid, task, p.first, p.second, option, count, lock)
             }
         }
     }

@@ -5,6 +5,7 @@ use mathlib.Core.Bool.{Bool, true, false}
 use mathlib.Core.List.{List, [], ◌∷◌, ◌++◌}
 use Prim.Native.Nat.{ℕ, ◌+◌, ◌≤◌, ◌<◌}
 use native.Mathlib.Numerals.{add-one}
+use native.Mathlib.Nat.{add-zero}
 use native.Mathlib.Omega.{arith}
 use lib.ListN.{length, get_or, set, take, length-append}
 use lib.Seq.{sets, length-sets, take_all, length-take-le}
@@ -20,7 +21,7 @@ use Rattle.label.specs.declared.step.Answer.{Answer}
 use Rattle.label.specs.declared.step.Answer.TheVariants as a
 use Rattle.label_body.specs.Locks.{lock_on}
 use Rattle.label_body.specs.Body.{Sized, block_at, size_of, block_of}
-use Rattle.label_body.specs.Answer.{block_bytes, answer_frame}
+use Rattle.label_body.specs.Answer.{block_bytes, blocks_bytes, answer_frame}
 use Rattle.label_body.proofs.BodyRoom.{block_fits}
 
 -- ---- a block as it is read: with its lock or without
@@ -41,6 +42,11 @@ module _ (b : List ℕ) (n : ℕ) (s : Sized b) (h : n ≤ get_or b 11 0) where
   unfolding block_bytes
   bytes_length true = omega (arith, block_length)
   bytes_length false = omega (arith, block_length)
+
+-- and no more behind it
+pub one_block : (n : ℕ) (lock : Bool) (b : List ℕ) → blocks_bytes n 0 lock b ≡ block_bytes n lock b
+unfolding blocks_bytes
+one_block n lock b = gather_more 0 (λ i. block_bytes (n + i) lock b) ∙ rw (gather_none, add-zero)
 
 -- laid from a place on, as it is lent: x
 module _ (b : List ℕ) (n at : ℕ) (lock : Bool) {x : List ℕ} (is : x ≡ block_of n b) where
@@ -95,10 +101,6 @@ module _ {f : ℕ → List ℕ} {count at i : ℕ} {start out : List ℕ} (run :
         long = rw (gather_more i f, length-append) (omega (arith, e.0, run.long));
         is = e.1 ∙ rw (gather_more i f, run.is, run.long) (sym (sets_append (gather i f) (f i) start 1));
       }
-
-  -- a piece of one byte
-  pub laying_one : {k r : ℕ} → i < count → k ∷ [] ≡ f i → r ≡ at + 1 → Laying f count start (set out at k) r (i + 1)
-  laying_one h e q = laying_more h (rw (← e) (q, refl))
 
 -- 00 before them, and all sealed where none is left
 pub laying_done : {f : ℕ → List ℕ} {count at i r : ℕ} (old : List ℕ) {out y : List ℕ} → Laying f count (set old 0 0) out at i → count ≤ i

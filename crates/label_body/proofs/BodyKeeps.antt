@@ -1,5 +1,6 @@
 -- A step keeps a body's length and its rules: a label that keeps its own rules goes on keeping them, by the ways of the step, and so do the bytes behind it.
 -- Assumes nothing.
+use Rattle.std.specs.Prelude.{Option}
 use mathlib.Core.Path.{◌≡◌, refl, ◌∙◌}
 use mathlib.Core.Logic.{⊎_elim}
 use mathlib.Core.Bool.{true}
@@ -190,7 +191,7 @@ slot_small l p =
 pub stored_small : (b : List ℕ) (l : Label) → Bytes b → Proper l → Bytes (store_of b l)
 stored_small b l f p = stored_all b l f p.dsfid p.afi (omega arith) (omega arith) (slot_small l p) (omega arith)
 
-module _ (x : Work) (bytes b : List ℕ) (s : Bytes b) (fit : WorkFits x (length bytes) b) (ok : LabelFine b) where
+module _ (x : Option Work) (bytes b : List ℕ) (s : Bytes b) (fit : WorkFits x (length bytes) b) (ok : LabelFine b) where
   pub worked_fine : LabelFine (worked x bytes b)
   worked_fine =
       let e15 = worked_below x bytes b 15 (omega arith) in

@@ -1,6 +1,6 @@
 -- What a label written into a body leaves and reads: three runs of stores (8 to 10, 14 to 16, 17 to 24), each read by the laws of runs.
 -- Assumes nothing.
-use mathlib.Core.Path.{◌≡◌, sym, ap, ◌∙◌}
+use mathlib.Core.Path.{◌≡◌, sym, ap, ◌∙◌, subst}
 use mathlib.Core.Logic.{inl, inr}
 use mathlib.Core.List.{List, [], ◌∷◌}
 use Prim.Native.Nat.{ℕ, ◌+◌, ◌^◌, ◌≤◌, ◌<◌}
@@ -16,6 +16,10 @@ use Rattle.label_body.specs.Slots.{seek}
 use Rattle.label_body.proofs.LocksLaws.{room_same, lock_above}
 use Rattle.label_body.specs.Locks.{lock_on}
 use Rattle.label_body.specs.Body.{load_of, store_of, Sized, block_at}
+
+-- what is there already
+pub set_same : (b : List ℕ) (at v : ℕ) → get_or b at 0 ≡ v → b ≡ set b at v
+set_same b at v e = subst (λ (x : ℕ). b ≡ set b at x) e (sym (set-get_or b at 0))
 
 -- the three runs
 abbrev low : Label → List ℕ

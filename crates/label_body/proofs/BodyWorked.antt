@@ -1,5 +1,6 @@
 -- What the work of a step leaves: blocks and locks stand behind the first 32 bytes, and blocks behind locks.
 -- Assumes nothing.
+use Rattle.std.specs.Prelude.{Option, None, Some}
 use mathlib.Core.Path.{◌≡◌, refl}
 use mathlib.Core.Logic.{inl}
 use mathlib.Core.List.{List}
@@ -17,38 +18,38 @@ use Rattle.label_body.specs.Facts.{WorkFits}
 use Rattle.label_body.proofs.LocksLaws.{room_same, fine_same, with_length, with_below, with_bytes, with_fine}
 use Rattle.label_body.proofs.BodyRoom.{block_after, locks_before}
 
-pub worked_length : (x : Work) (bytes b : List ℕ) → length (worked x bytes b) ≡ length b
+pub worked_length : (x : Option Work) (bytes b : List ℕ) → length (worked x bytes b) ≡ length b
 unfolding worked
-worked_length w.Nothing bytes b = refl
-worked_length (w.Write n) bytes b = length-sets b (block_at b n) bytes
-worked_length (w.Lock n) bytes b = with_length n b
+worked_length None bytes b = refl
+worked_length (Some (w.Write n)) bytes b = length-sets b (block_at b n) bytes
+worked_length (Some (w.Lock n)) bytes b = with_length n b
 
-pub worked_below : (x : Work) (bytes b : List ℕ) (j : ℕ) → j < 32 → get_or (worked x bytes b) j 0 ≡ get_or b j 0
+pub worked_below : (x : Option Work) (bytes b : List ℕ) (j : ℕ) → j < 32 → get_or (worked x bytes b) j 0 ≡ get_or b j 0
 unfolding worked
-worked_below w.Nothing bytes b j h = refl
-worked_below (w.Write n) bytes b j h = let g = block_after b n in sets_off b bytes (block_at b n) j (inl (omega arith))
-worked_below (w.Lock n) bytes b j h = with_below n b j h
+worked_below None bytes b j h = refl
+worked_below (Some (w.Write n)) bytes b j h = let g = block_after b n in sets_off b bytes (block_at b n) j (inl (omega arith))
+worked_below (Some (w.Lock n)) bytes b j h = with_below n b j h
 
-pub worked_part : (x : Work) (bytes b : List ℕ) (p k : ℕ) → p + k ≤ 32 → part p k (worked x bytes b) ≡ part p k b
+pub worked_part : (x : Option Work) (bytes b : List ℕ) (p k : ℕ) → p + k ≤ 32 → part p k (worked x bytes b) ≡ part p k b
 worked_part x bytes b p k h = part_ext p k (worked x bytes b) b (worked_length x bytes b) (λ j g. worked_below x bytes b (p + j) (omega arith))
 
-pub worked_sized : (x : Work) (bytes b : List ℕ) → Sized b → Sized (worked x bytes b)
+pub worked_sized : (x : Option Work) (bytes b : List ℕ) → Sized b → Sized (worked x bytes b)
 unfolding Sized
 worked_sized x bytes b s =
     let e = worked_below x bytes b 11 (omega arith) in
     rw (worked_length x bytes b, room_same b (worked x bytes b) e, e, worked_below x bytes b 12 (omega arith)) s
 
 -- the locks keep their rules
-pub worked_locks : (x : Work) (bytes b : List ℕ) → Bytes b → WorkFits x (length bytes) b → LocksFine b → LocksFine (worked x bytes b)
+pub worked_locks : (x : Option Work) (bytes b : List ℕ) → Bytes b → WorkFits x (length bytes) b → LocksFine b → LocksFine (worked x bytes b)
 unfolding worked WorkFits
-worked_locks w.Nothing bytes b s h g = g
-worked_locks (w.Write n) bytes b s h g =
-    fine_same b (worked (w.Write n) bytes b) (worked_below (w.Write n) bytes b 11 (omega arith))
+worked_locks None bytes b s h g = g
+worked_locks (Some (w.Write n)) bytes b s h g =
+    fine_same b (worked (Some (w.Write n)) bytes b) (worked_below (Some (w.Write n)) bytes b 11 (omega arith))
     (λ j l m. sets_off b bytes (block_at b n) j (inl (omega (arith, locks_before b n)))) g
-worked_locks (w.Lock n) bytes b s h g = with_fine n b s h g
+worked_locks (Some (w.Lock n)) bytes b s h g = with_fine n b s h g
 
-pub worked_bytes : (x : Work) (bytes b : List ℕ) → Bytes bytes → Bytes b → Bytes (worked x bytes b)
+pub worked_bytes : (x : Option Work) (bytes b : List ℕ) → Bytes bytes → Bytes b → Bytes (worked x bytes b)
 unfolding worked
-worked_bytes w.Nothing bytes b f g = g
-worked_bytes (w.Write n) bytes b f g = bytes_sets b bytes (block_at b n) g f
-worked_bytes (w.Lock n) bytes b f g = with_bytes n b g
+worked_bytes None bytes b f g = g
+worked_bytes (Some (w.Write n)) bytes b f g = bytes_sets b bytes (block_at b n) g f
+worked_bytes (Some (w.Lock n)) bytes b f g = with_bytes n b g

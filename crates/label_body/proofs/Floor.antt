@@ -1,5 +1,6 @@
 -- What the hospital's floor asked of a label, over any request: the UID and the numbers stay, what is locked stays, an error changes nothing; and over frames
 -- and events: who is quiet or off keeps still, another's Select, a mask of 60 bits. By the ways of the step. Assumes nothing.
+use Rattle.std.specs.Prelude.{Option, None, Some}
 use Rattle.std.specs.Prelude.{if◌then◌else◌}
 use mathlib.Core.Path.{◌≡◌, refl, sym, ap, ◌∙◌}
 use mathlib.Core.Logic.{inl, inr, ⊎_elim}
@@ -72,10 +73,10 @@ module _ (r : Request) (bytes b : List ℕ) where
 -- ---- a locked block, and its lock
 
 -- what the work of a step that is refused for lock byte 1 leaves
-unfoldable Spares : ℕ → ℕ → Work → List ℕ → Type 0
-Spares n count w.Nothing b = Unit
-Spares n count (w.Write m) b = (m ≡ n → ⊥) × (count ≡ size_of b)
-Spares n count (w.Lock m) b = m ≤ get_or b 11 0
+unfoldable Spares : ℕ → ℕ → Option Work → List ℕ → Type 0
+Spares n count None b = Unit
+Spares n count (Some (w.Write m)) b = (m ≡ n → ⊥) × (count ≡ size_of b)
+Spares n count (Some (w.Lock m)) b = m ≤ get_or b 11 0
 
 way_spares : {call : Call} {count : ℕ} (n : ℕ) (b : List ℕ) {s : Stepped} → lock_on n b ≡ 1
     → Way call count (named call b) (load_of b) s → Spares n count s.work b
@@ -97,11 +98,11 @@ way_spares n b e (dsfids v x y) = tt
 way_spares n b e (afi_locks x) = tt
 way_spares n b e (dsfid_locks x) = tt
 
-block_stays : (x : Work) (n : ℕ) (bytes b : List ℕ) → n < blocks_of b → Spares n (length bytes) x b
+block_stays : (x : Option Work) (n : ℕ) (bytes b : List ℕ) → n < blocks_of b → Spares n (length bytes) x b
     → part (block_at b n) (size_of b) (worked x bytes b) ≡ part (block_at b n) (size_of b) b
 unfolding Spares worked
-block_stays w.Nothing n bytes b h g = refl
-block_stays (w.Write m) n bytes b h g =
+block_stays None n bytes b h g = refl
+block_stays (Some (w.Write m)) n bytes b h g =
     part_off b bytes (block_at b m) (block_at b n) (size_of b)
     (⊎_elim
     (λ (i : m < n). inr (rw g.1 (block_next b m n i)))
@@ -110,27 +111,27 @@ block_stays (w.Write m) n bytes b h g =
     let j : n < m = omega arith in
     inl (block_next b n m j))
     (below_or_not m n))
-block_stays (w.Lock m) n bytes b h g =
-    part_ext (block_at b n) (size_of b) (worked (w.Lock m) bytes b) b (with_length m b)
+block_stays (Some (w.Lock m)) n bytes b h g =
+    part_ext (block_at b n) (size_of b) (worked (Some (w.Lock m)) bytes b) b (with_length m b)
     (λ j l. with_behind m b (block_at b n + j) g (omega (arith, locks_before b n)))
 
-locks_stay : (x : Work) (n : ℕ) (bytes b : List ℕ) → Sized b → n < blocks_of b → lock_on n b ≡ 1 → lock_on n (worked x bytes b) ≡ 1
+locks_stay : (x : Option Work) (n : ℕ) (bytes b : List ℕ) → Sized b → n < blocks_of b → lock_on n b ≡ 1 → lock_on n (worked x bytes b) ≡ 1
 unfolding worked
-locks_stay w.Nothing n bytes b s h e = e
-locks_stay (w.Write m) n bytes b s h e =
-    lock_same n b (worked (w.Write m) bytes b) (omega arith) (λ j l k. sets_off b bytes (block_at b m) j (inl (omega (arith, locks_before b m)))) ∙ e
-locks_stay (w.Lock m) n bytes b s h e =
+locks_stay None n bytes b s h e = e
+locks_stay (Some (w.Write m)) n bytes b s h e =
+    lock_same n b (worked (Some (w.Write m)) bytes b) (omega arith) (λ j l k. sets_off b bytes (block_at b m) j (inl (omega (arith, locks_before b m)))) ∙ e
+locks_stay (Some (w.Lock m)) n bytes b s h e =
     ⊎_elim
     (λ (q : m ≡ n). rw q (with_own n b (omega arith) (locks_fit b s)))
     (λ (q : m ≡ n → ⊥). with_other n m b (λ z. q (sym z)) ∙ e)
     (same_or_not m n)
 
 -- the label stored moves neither
-spares_stored : (n count : ℕ) (x : Work) (b : List ℕ) (l : Label) → Spares n count x b → Spares n count x (store_of b l)
+spares_stored : (n count : ℕ) (x : Option Work) (b : List ℕ) (l : Label) → Spares n count x b → Spares n count x (store_of b l)
 unfolding Spares
-spares_stored n count w.Nothing b l g = tt
-spares_stored n count (w.Write m) b l g = (g.0, rw (stored_between b l 12 (omega arith) (omega arith)) g.1)
-spares_stored n count (w.Lock m) b l g = rw (stored_between b l 11 (omega arith) (omega arith)) g
+spares_stored n count None b l g = tt
+spares_stored n count (Some (w.Write m)) b l g = (g.0, rw (stored_between b l 12 (omega arith) (omega arith)) g.1)
+spares_stored n count (Some (w.Lock m)) b l g = rw (stored_between b l 11 (omega arith) (omega arith)) g
 
 module _ (r : Request) (bytes b : List ℕ) (n : ℕ) (h : n < blocks_of b) (e : lock_on n b ≡ 1) where
   pub locked_block_stays : part (block_at b n) (size_of b) (next_label r bytes b) ≡ part (block_at b n) (size_of b) b
@@ -465,11 +466,11 @@ call_count (Fault to code) uid n m lock l z = refl
 call_count (Do to task p option) uid n m lock l z = ap (λ (s : Stepped). awake s l) (task_count task to uid p option n m lock l z)
 
 -- a work that does not fit a write of so many bytes is none
-unwritten : (x : Work) (count : ℕ) (b : List ℕ) → (count ≡ size_of b → ⊥) → WorkFits x count b → (bytes bytes₂ y : List ℕ) → worked x bytes y ≡ worked x bytes₂ y
+unwritten : (x : Option Work) (count : ℕ) (b : List ℕ) → (count ≡ size_of b → ⊥) → WorkFits x count b → (bytes bytes₂ y : List ℕ) → worked x bytes y ≡ worked x bytes₂ y
 unfolding WorkFits worked
-unwritten w.Nothing count b h g bytes bytes₂ y = refl
-unwritten (w.Write n) count b h g bytes bytes₂ y = absurd (h g.1)
-unwritten (w.Lock n) count b h g bytes bytes₂ y = refl
+unwritten None count b h g bytes bytes₂ y = refl
+unwritten (Some (w.Write n)) count b h g bytes bytes₂ y = absurd (h g.1)
+unwritten (Some (w.Lock n)) count b h g bytes bytes₂ y = refl
 
 module _ (r : Request) (b : List ℕ) (z : (to : Target) (p : Params) (option : Bool) → r.call ≡ Do to t.Write p option → ⊥) where
   uncounted : (n m : ℕ) → stepped r n b ≡ stepped r m b

@@ -2,7 +2,6 @@
 pub mod LocksLaws
 pub mod BodyJudged
 pub mod FactsFine
-pub mod BodyOthers
 pub mod BodyRoom
 pub mod BodyStored
 pub mod AnswerLaid

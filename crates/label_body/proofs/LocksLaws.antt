@@ -6,15 +6,15 @@ use mathlib.Core.List.{List, [], ◌∷◌, ◌++◌, append_assoc}
 use Prim.Native.Nat.{ℕ, zero, suc, ◌+◌, ◌≤◌, ◌<◌}
 use native.Mathlib.Nat.{eq-or-lt_of_le}
 use native.Mathlib.Omega.{arith}
-use lib.Dec.{eqb, ltb, lit<}
-use lib.ListN.{length, get_or, set, length-set}
-use lib.Seq.{get_or-set_same, get_or-set_other, get_or-append-add, get_or_at}
-use Rattle.frame.specs.declared.verdict.Verdict.{Verdict}
+use lib.Dec.{ltb, lit<}
+use lib.ListN.{length, get_or, set, drop, length-set, length-drop}
+use lib.Seq.{get_or-set_same, get_or-set_other, get_or-append-add, get_or_at, get_or-drop, take-suc}
 use Rattle.frame.specs.Choose.{gather}
-use Rattle.frame.specs.Number.{Bytes}
-use Rattle.frame.specs.Judge.{fine, first_of, byte_verdict}
+use Rattle.frame.specs.Number.{part, Bytes}
+use Rattle.std.specs.Prelude.{Ok, Err}
+use Rattle.frame.specs.Judge.{Verdict, fine, or_else, first_of, byte_verdict}
 use Rattle.frame.proofs.Bools.{if_both}
-use Rattle.frame.proofs.Lists.{gather_suc}
+use Rattle.frame.proofs.Lists.{gather_none, gather_suc}
 use Rattle.frame.proofs.Gather.{gather_bytes, gather_length}
 use Rattle.frame.proofs.Stores.{bytes_cons, bytes_set}
 use Rattle.frame.proofs.Judge.{first_none, first_suc, bytes_fine, bytes_good}
@@ -51,6 +51,19 @@ fine_same b c e h f j l = let g : j < get_or b 11 0 + 1 = omega (arith, e) in rw
 pub lock_one : (n : ℕ) (b : List ℕ) → LocksFine b → n ≤ get_or b 11 0 → lock_on n b ≤ 1
 unfolding LocksFine lock_on
 lock_one n b f l = f n (omega arith)
+
+lock_there : (b : List ℕ) (n k : ℕ) → get_or b (32 + n + k) 0 ≡ lock_on (n + k) b
+unfolding lock_on
+lock_there b n k = ap (λ (m : ℕ). get_or b m 0) (omega arith)
+
+-- the locks of block n and of those behind it stand side by side
+pub locks_part : (b : List ℕ) (n k : ℕ) → 32 + n + k ≤ length b → gather k (λ i. lock_on (n + i) b ∷ []) ≡ part (32 + n) k b
+locks_part b n zero h = gather_none (λ i. lock_on (n + i) b ∷ [])
+locks_part b n (suc k) h =
+    let s = drop (32 + n) b in
+    let l : k < length s = omega (arith, length-drop (32 + n) b) in
+    let e : get_or s k 0 ≡ lock_on (n + k) b = get_or-drop (32 + n) b k 0 ∙ lock_there b n k in
+    gather_suc k (λ i. lock_on (n + i) b ∷ []) ∙ rw (locks_part b n k (omega arith), ← e) (sym (take-suc s k 0 l))
 
 -- ---- what locking a block leaves
 
@@ -92,7 +105,7 @@ with_fine n b s l f j h = set_le b (32 + n) 1 1 (32 + j) (omega arith) (f j (ome
 
 -- ---- the rules
 
-pub locks_tell : (b : List ℕ) → (locks_verdict b).number ≡ 0 → LocksFine b
+pub locks_tell : (b : List ℕ) → locks_verdict b ≡ fine → LocksFine b
 unfolding locks_verdict LocksFine
 locks_tell b e = bytes_fine b 32 1 (get_or b 11 0 + 1) e
 
@@ -100,20 +113,25 @@ pub locks_keep : (b : List ℕ) → LocksFine b → locks_verdict b ≡ fine
 unfolding locks_verdict LocksFine
 locks_keep b f = bytes_good b 32 1 (get_or b 11 0 + 1) f
 
-abbrev Within : ℕ → Verdict → Type 0
-Within k v = v.place ≤ k
+-- the offence, where there is one, is at place k or before it
+abbrev pub Within : ℕ → Verdict → Type 0
+Within k (Ok u) = Unit
+Within k (Err o) = o.place ≤ k
 
-pub first_place : (f : ℕ → Verdict) (k n : ℕ) → ((i : ℕ) → i < n → (f i).place ≤ k) → (first_of n f).place ≤ k
-first_place f k zero h = rw (first_none f) (omega arith)
+pub else_place : (k : ℕ) (v w : Verdict) → Within k v → Within k w → Within k (or_else v w)
+else_place k (Ok u) w h g = g
+else_place k (Err o) w h g = h
+
+pub first_place : (f : ℕ → Verdict) (k n : ℕ) → ((i : ℕ) → i < n → Within k (f i)) → Within k (first_of n f)
+first_place f k zero h = rw (first_none f) tt
 first_place f k (suc n) h =
-    rw (first_suc f n)
-    (if_both (Within k) (eqb (first_of n f).number 0) (h n (omega arith)) (first_place f k n (λ i l. h i (omega arith))))
+    rw (first_suc f n) (else_place k (first_of n f) (f n) (first_place f k n (λ i l. h i (omega arith))) (h n (omega arith)))
 
-pub byte_place : (b : List ℕ) (at most j k : ℕ) → at + j ≤ k → (byte_verdict b at most j).place ≤ k
+pub byte_place : (b : List ℕ) (at most j k : ℕ) → at + j ≤ k → Within k (byte_verdict b at most j)
 unfolding byte_verdict
-byte_place b at most j k h = if_both (Within k) (ltb most (get_or b (at + j) 0)) h (omega arith)
+byte_place b at most j k h = if_both (Within k) (ltb most (get_or b (at + j) 0)) h tt
 
-pub locks_place : (b : List ℕ) (k : ℕ) → 32 + lock_room b ≤ k → (locks_verdict b).place ≤ k
+pub locks_place : (b : List ℕ) (k : ℕ) → 32 + lock_room b ≤ k → Within k (locks_verdict b)
 unfolding locks_verdict lock_room
 locks_place b k h = first_place (byte_verdict b 32 1) k (get_or b 11 0 + 1) (λ i l. byte_place b 32 1 i k (omega arith))
 

@@ -1,5 +1,6 @@
 -- The ways a label's step goes, one for each end of the definition's tests, with what holds there. A law over every request is by the ways.
 -- Assumes nothing.
+use Rattle.std.specs.Prelude.{Some}
 use Rattle.std.specs.Prelude.{if◌then◌else◌}
 use mathlib.Core.Path.{◌≡◌, refl}
 use mathlib.Core.Bool.{Bool, true, false, not, ◌&&◌}
@@ -66,9 +67,9 @@ pub data Way (call : Call) (count lock : ℕ) (l : Label) : Stepped → Type 0 w
   readies : Way call count lock l (done (with_state 1 (ended l)))
   drops : Way call count lock l (silent (with_state 1 (ended l)))
   writes : (n : ℕ) → ((b : List ℕ) → named call b ≡ lock_on n b) → count ≡ l.size + 1 → n ≤ l.blocks → (lock ≡ 1 → ⊥)
-      → Way call count lock l (record { next = ended l; answer = a.Done; work = w.Write n })
+      → Way call count lock l (record { next = ended l; answer = a.Done; work = Some (w.Write n) })
   locks : (n : ℕ) → ((b : List ℕ) → named call b ≡ lock_on n b) → n ≤ l.blocks → (lock ≡ 1 → ⊥)
-      → Way call count lock l (record { next = ended l; answer = a.Done; work = w.Lock n })
+      → Way call count lock l (record { next = ended l; answer = a.Done; work = Some (w.Lock n) })
   afis : (v : ℕ) → (Sound call → v < 256) → (bit 0 l.locks ≡ 1 → ⊥) → Way call count lock l (done (with_afi v (ended l)))
   dsfids : (v : ℕ) → (Sound call → v < 256) → (bit 1 l.locks ≡ 1 → ⊥) → Way call count lock l (done (with_dsfid v (ended l)))
   afi_locks : (bit 0 l.locks ≡ 1 → ⊥) → Way call count lock l (done (with_locks (l.locks + 1) (ended l)))

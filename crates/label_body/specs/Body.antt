@@ -1,9 +1,9 @@
 -- Document 01, "Rack file": the label body, 32 bytes, the locks, the blocks; its rules and the step on it. Assumes nothing.
-use Rattle.std.specs.Prelude.{◌≡◌, Bool, not, ◌&&◌, List, [], ◌∷◌, ℕ, ◌+◌, ◌-◌, ◌*◌, ◌^◌, eqb, ltb, leb, length, get_or, if◌then◌else◌}
+use Rattle.std.specs.Prelude.{Option, None, Some, ◌≡◌, Bool, not, ◌&&◌, List, [], ◌∷◌, ℕ, ◌+◌, ◌-◌, ◌*◌, ◌^◌, eqb, ltb, leb, length, get_or, if◌then◌else◌}
 use Rattle.std.proofs.lemmas.List.Edits.{sets}
 use Rattle.frame.specs.Number.{num, bytes_of, part}
-use Rattle.frame.specs.Judge.{fine, bad, or_else, first_of, byte_verdict}
-use Rattle.frame.specs.declared.verdict.Verdict.{Verdict}
+use Rattle.frame.specs.declared.verdict.Rule.TheVariants.{Body}
+use Rattle.frame.specs.Judge.{Verdict, fine, bad, or_else, first_of, byte_verdict}
 use Rattle.request.specs.declared.label.Call.{Call}
 use Rattle.request.specs.declared.label.Call.TheVariants.{Ignored, Off, On, EndOfFrame, Nobody, Inventory, Fault, Do}
 use Rattle.request.specs.declared.label.Request.{Request}
@@ -66,22 +66,22 @@ Sized b = length b ≡ wanted_of b
 -- locks, blocks less 1 (the length must fit), block length less 1, state
 unfoldable pub head_rules : List ℕ → Verdict
 head_rules b =
-    if ltb 3 (get_or b 10 0) then bad 13 10
-    else if not (eqb (length b) (wanted_of b)) then bad 13 11
-    else if ltb 31 (get_or b 12 0) then bad 13 12
-    else if ltb 3 (get_or b 14 0) then bad 13 14
+    if ltb 3 (get_or b 10 0) then bad Body 10
+    else if not (eqb (length b) (wanted_of b)) then bad Body 11
+    else if ltb 31 (get_or b 12 0) then bad Body 12
+    else if ltb 3 (get_or b 14 0) then bad Body 14
     else fine
 
 -- mask length at most 60
 unfoldable pub bits_rules : List ℕ → Verdict
-bits_rules b = if ltb 60 (get_or b 16 0) then bad 13 16 else fine
+bits_rules b = if ltb 60 (get_or b 16 0) then bad Body 16 else fine
 
 -- slot 0 to 15, or 255 for none; a slot other than 255 needs state 1 or 3; with slot 255 the mask length is zero
 unfoldable pub slot_rules : List ℕ → Verdict
 slot_rules b =
-    if eqb (get_or b 15 0) 255 then (if not (eqb (get_or b 16 0) 0) then bad 13 16 else fine)
-    else if ltb 15 (get_or b 15 0) then bad 13 15
-    else if not (eqb (get_or b 14 0) 1) && not (eqb (get_or b 14 0) 3) then bad 13 15
+    if eqb (get_or b 15 0) 255 then (if not (eqb (get_or b 16 0) 0) then bad Body 16 else fine)
+    else if ltb 15 (get_or b 15 0) then bad Body 15
+    else if not (eqb (get_or b 14 0) 1) && not (eqb (get_or b 14 0) 3) then bad Body 15
     else bits_rules b
 
 -- byte j of the mask has a bit above the mask's length
@@ -89,7 +89,7 @@ unfoldable pub over : List ℕ → ℕ → Bool
 over b j = leb (2 ^ (get_or b 16 0 - 8 * j)) (get_or b (17 + j) 0)
 
 unfoldable pub mask_verdict : List ℕ → ℕ → Verdict
-mask_verdict b j = if over b j then bad 13 (17 + j) else fine
+mask_verdict b j = if over b j then bad Body (17 + j) else fine
 
 -- then zeros (25 to 31) and the locks
 unfoldable pub label_rules : List ℕ → Verdict
@@ -114,10 +114,10 @@ named (Fault to code) b = 0
 named (Do to task p option) b = lock_on p.first b
 
 -- a block becomes the bytes sent, or is locked
-unfoldable pub worked : Work → List ℕ → List ℕ → List ℕ
-worked w.Nothing bytes b = b
-worked (w.Write n) bytes b = sets b (block_at b n) bytes
-worked (w.Lock n) bytes b = with_lock n b
+unfoldable pub worked : Option Work → List ℕ → List ℕ → List ℕ
+worked None bytes b = b
+worked (Some (w.Write n)) bytes b = sets b (block_at b n) bytes
+worked (Some (w.Lock n)) bytes b = with_lock n b
 
 -- old body, request and bytes sent alone decide
 unfoldable pub stepped : Request → ℕ → List ℕ → Stepped

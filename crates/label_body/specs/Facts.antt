@@ -1,6 +1,6 @@
 -- Not for the reader of the paper: what the rules of a label's body say, as facts, and what the writers of a block and of an answer need.
 -- Assumes nothing.
-use Rattle.std.specs.Prelude.{◌≡◌, List, ℕ, ◌+◌, ◌^◌, ◌≤◌, ◌<◌, get_or}
+use Rattle.std.specs.Prelude.{Option, None, Some, ◌≡◌, List, ℕ, ◌+◌, ◌^◌, ◌≤◌, ◌<◌, get_or}
 use Rattle.frame.specs.Number.{num, part}
 use Rattle.label_body.specs.Locks.{LocksFine}
 use Rattle.label.specs.declared.step.Answer.{Answer}
@@ -24,10 +24,10 @@ pub record LabelFine (b : List ℕ) : Type 0 where
   pub locked : LocksFine b
 
 -- a work that stays inside the body, with count bytes sent
-unfoldable pub WorkFits : Work → ℕ → List ℕ → Type 0
-WorkFits w.Nothing count b = Unit
-WorkFits (w.Write n) count b = (n ≤ get_or b 11 0) × (count ≡ size_of b)
-WorkFits (w.Lock n) count b = n ≤ get_or b 11 0
+unfoldable pub WorkFits : Option Work → ℕ → List ℕ → Type 0
+WorkFits None count b = Unit
+WorkFits (Some (w.Write n)) count b = (n ≤ get_or b 11 0) × (count ≡ size_of b)
+WorkFits (Some (w.Lock n)) count b = n ≤ get_or b 11 0
 
 -- an answer that the body can give: the blocks are there
 unfoldable pub AnswerFits : Answer → List ℕ → Type 0

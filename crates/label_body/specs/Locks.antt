@@ -1,7 +1,6 @@
 -- Document 01, "Rack file": the locks of a label's blocks, behind the first 32 bytes of its body. What a lock is, is said here alone. Assumes nothing.
 use Rattle.std.specs.Prelude.{List, ℕ, ◌+◌, ◌≤◌, ◌<◌, get_or, set}
-use Rattle.frame.specs.Judge.{first_of, byte_verdict}
-use Rattle.frame.specs.declared.verdict.Verdict.{Verdict}
+use Rattle.frame.specs.Judge.{Verdict, first_of, byte_verdict}
 
 -- one lock byte for each block; blocks less 1 is byte 11
 unfoldable pub lock_room : List ℕ → ℕ

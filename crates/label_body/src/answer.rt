@@ -7,27 +7,17 @@ ghost use Rattle.frame.specs.CheckSum.{framed};
 ghost use Rattle.label_body.specs.Facts.{AnswerFits};
 
 use crate::body::block;
-use crate::locks::lock_on;
+use crate::locks::{lock_on, lock_place};
 use frame::check_sum::seal;
 use frame::part::seal_part;
 use frame::put::put_bytes;
 use label::step::Answer;
 
-// Whether there is an answer.
+// Whether there is an answer. (A chip's answers are another enum; a trait for the two would be longer than both.)
 pub fn speaking(a: Answer) -> bool
     ensures { result ≡ speaks a }
 {
-    match a {
-        Answer::Silent => false,
-        Answer::Error(_) => true,
-        Answer::Done => true,
-        Answer::Found => true,
-        Answer::Block(_, _) => true,
-        Answer::Info => true,
-        Answer::Blocks(_, _) => true,
-        Answer::LocksAndBlocks(_, _) => true,
-        Answer::Locks(_, _) => true,
-    }
+    !matches!(a, Answer::Silent)
 }
 
 // 00, DSFID, UID.
@@ -66,18 +56,6 @@ fn lay_block(b: &[u8], n: u8, lock: bool, out: &mut [u8], at: usize) -> usize
     put_bytes(out, at, bytes, bytes.len())
 }
 
-// 00, the block.
-fn say_block(b: &[u8], n: u8, lock: bool, out: &mut [u8]) -> usize
-    requires sized { Sized b.now × (n ≤ get_or b.now 11 0) }
-    requires b_in_bounds { length (answer_frame (Answer.Block n lock) b.now) ≤ length out.old }
-    ensures { (result ≡ length (answer_frame (Answer.Block n lock) b.now))
-        × (out.new ≡ sets out.old 0 (answer_frame (Answer.Block n lock) b.now)) }
-{
-    out[0] = 0;
-    let m = lay_block(b, n, lock, out, 1);
-    seal(out, m)
-}
-
 // 00, block n and so many more.
 fn say_blocks(b: &[u8], n: u8, more: u8, lock: bool, out: &mut [u8]) -> usize
     requires sized { Sized b.now × (n + more ≤ get_or b.now 11 0) }
@@ -85,14 +63,10 @@ fn say_blocks(b: &[u8], n: u8, more: u8, lock: bool, out: &mut [u8]) -> usize
     ensures { (result ≡ length (framed (0 ∷ blocks_bytes n more lock b.now)))
         × (out.new ≡ sets out.old 0 (framed (0 ∷ blocks_bytes n more lock b.now))) }
 {
-    let first = n as usize;
-    let count = more as usize + 1;
     out[0] = 0;
     let mut at = 1;
-    let mut i = 0;
-    while i < count {
-        at = lay_block(b, (first + i) as u8, lock, out, at);
-        i += 1;
+    for i in 0..more as usize + 1 {
+        at = lay_block(b, (n as usize + i) as u8, lock, out, at);
     }
     seal(out, at)
 }
@@ -104,18 +78,12 @@ fn say_locks(b: &[u8], n: u8, more: u8, out: &mut [u8]) -> usize
     ensures { (result ≡ length (answer_frame (Answer.Locks n more) b.now))
         × (out.new ≡ sets out.old 0 (answer_frame (Answer.Locks n more) b.now)) }
 {
-    let first = n as usize;
-    let count = more as usize + 1;
     out[0] = 0;
-    let mut i = 0;
-    while i < count {
-        out[1 + i] = lock_on(b, (first + i) as u8);
-        i += 1;
-    }
-    seal(out, 1 + count)
+    seal_part(out, 1, b, lock_place(n), more as usize + 1)
 }
 
 // Writes the frame of an answer to the front of out, and returns its length.
+#[tactic(auto, using(crate::proofs::BodyRoom::sized_long, crate::proofs::AnswerLaid::found_length, crate::proofs::AnswerLaid::info_length, crate::proofs::AnswerLaid::error_room, crate::proofs::AnswerLaid::done_room, crate::proofs::AnswerLaid::found_room, crate::proofs::AnswerLaid::info_room, crate::proofs::AnswerLaid::one_block), unfolding(crate::specs::Answer::answer_frame, crate::specs::Facts::AnswerFits))]
 pub fn write_answer(a: Answer, b: &[u8], out: &mut [u8]) -> usize
     requires sized { Sized b.now × AnswerFits a b.now }
     requires b_in_bounds { length (answer_frame a b.now) ≤ length out.old }
@@ -133,7 +101,7 @@ pub fn write_answer(a: Answer, b: &[u8], out: &mut [u8]) -> usize
             seal(out, 1)
         }
         Answer::Found => say_found(b, out),
-        Answer::Block(n, lock) => say_block(b, n, lock, out),
+        Answer::Block(n, lock) => say_blocks(b, n, 0, lock, out),
         Answer::Info => say_info(b, out),
         Answer::Blocks(n, more) => say_blocks(b, n, more, false, out),
         Answer::LocksAndBlocks(n, more) => say_blocks(b, n, more, true, out),

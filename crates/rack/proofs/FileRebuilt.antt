@@ -12,7 +12,6 @@ use lib.Seq.{take_at, take_all, take-add, length-take-le}
 use Rattle.frame.specs.Choose.{gather}
 use Rattle.frame.specs.Judge.{fine}
 use Rattle.frame.specs.Number.{part, Bytes}
-use Rattle.frame.specs.declared.verdict.Verdict.{Verdict}
 use Rattle.frame.proofs.Lists.{gather_none, gather_suc}
 use Rattle.frame.proofs.Numbers.{bytes_take, bytes_append}
 use Rattle.frame.proofs.Stores.{length_part}
@@ -154,18 +153,15 @@ module _ (r x : List ℕ) (same : length x ≡ length r) (front : take (entry_at
 -- ---- a fine rack with other fine bodies is fine
 module _ (r : List ℕ) (g : ℕ → List ℕ) (ok : RackFine r) (sized : (i : ℕ) → i < count_of r → length (g i) ≡ length_at r i)
     (tags : (i : ℕ) → i < count_of r → TagFine (kind_at r i) (g i)) where
-  number : (v w : Verdict) → v ≡ w → w ≡ fine → v.number ≡ 0
-  number v w p q = ap (λ (u : Verdict). u.number) (p ∙ q)
-
   inside : (i : ℕ) → i < count_of r → BodyFine (rebuilt r g) i
   inside i h =
       let x = rebuilt r g in
       let n = rebuilt_count r ok.whole g sized in
       let m : i < count_of x = omega (arith, n) in
-      let z : (body_rules (kind_at x i) (body_at x i)).number ≡ 0 =
+      let z : body_rules (kind_at x i) (body_at x i) ≡ fine =
       rw (rebuilt_kind r ok.whole g sized i h, rebuilt_body r ok.whole g sized i h) (tags i h).rules in
       let e = body_is x i (body_inside x (rebuilt_whole r ok.whole g sized) i m) in
-      body_fine x i (number _ _ e (moved_fine (start_of x i) (body_rules (kind_at x i) (body_at x i)) z))
+      body_fine x i (e ∙ moved_fine (start_of x i) (body_rules (kind_at x i) (body_at x i)) z)
 
   pub rebuilt_fine : RackFine (rebuilt r g)
   rebuilt_fine =
@@ -174,8 +170,8 @@ module _ (r : List ℕ) (g : ℕ → List ℕ) (ok : RackFine r) (sized : (i : �
       let same = rebuilt_length r ok.whole g sized in
       let n = rebuilt_count r ok.whole g sized in
       record {
-        head = head_fine x (number _ _ (head_same r x same front) ok.head.is_fine);
-        entry = λ i h. let b : i < count_of r = omega (arith, n) in entry_fine x i (number _ _ (entry_same r x same front i b) (ok.entry i b).is_fine);
+        head = head_fine x (head_same r x same front ∙ ok.head.is_fine);
+        entry = λ i h. let b : i < count_of r = omega (arith, n) in entry_fine x i (entry_same r x same front i b ∙ (ok.entry i b).is_fine);
         body = λ i h. inside i (omega (arith, n));
         whole = rebuilt_whole r ok.whole g sized;
       }

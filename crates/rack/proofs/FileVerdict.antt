@@ -1,17 +1,19 @@
 -- The verdict on a rack file: what a fine verdict tells of each part, by the tests of that part (`rack_fine`), and back (`fine_rack`).
 -- Assumes nothing.
-use mathlib.Core.Path.{◌≡◌, refl, ap, sym, ◌∙◌}
+use Rattle.std.specs.Prelude.{Ok, Err}
+use mathlib.Core.Path.{◌≡◌, refl, ap, sym}
 use mathlib.Core.List.{List}
-use mathlib.Core.Bool.{Bool, true, false, not}
+use mathlib.Core.Bool.{not}
 use Prim.Native.Nat.{ℕ, zero, suc, ◌+◌, ◌≤◌, ◌<◌}
 use native.Mathlib.Nat.{le_antisymm}
 use native.Mathlib.Omega.{arith}
-use borrow.Author.Tests.{eq-eqb, ne_eqb, eqb-true, lt-ltb, le-ltb, ltb-false, not-false}
+use borrow.Author.Tests.{eqb-true, lt-ltb, le-ltb, ltb-false, not-false}
 use lib.Dec.{eqb, ltb}
 use lib.ListN.{length, get_or}
-use Rattle.frame.specs.Judge.{fine, bad, first_of}
-use Rattle.frame.specs.declared.verdict.Verdict.{Verdict}
-use Rattle.frame.proofs.Judge.{if_fine, else_fine, else_bad, else_next, not_none, first_each, first_all}
+use Rattle.frame.specs.Judge.{Verdict, fine, bad, first_of}
+use Rattle.frame.specs.declared.verdict.Offence.{Offence}
+use Rattle.frame.specs.declared.verdict.Rule.TheVariants.{Length, Head, Entry, Behind}
+use Rattle.frame.proofs.Judge.{if_fine, else_fine, first_each, first_all}
 use Rattle.rack.specs.File.{count_of, entry_at, kind_at, length_at, offset_at, start_of, body_at}
 use Rattle.rack.specs.File.{known, length_fits, head_verdict, entry_verdict, body_rules, moved, body_verdict, end_verdict, verdict_of}
 use Rattle.rack.specs.Facts.{HeadFine, EntryFine, EntriesFine, BodyFine, RackFine}
@@ -19,23 +21,23 @@ use Rattle.rack.proofs.FilePlaces.{start_none, start_suc}
 
 -- ---- what a fine part tells
 
-pub head_fine : (r : List ℕ) → (head_verdict r).number ≡ 0 → HeadFine r
+pub head_fine : (r : List ℕ) → head_verdict r ≡ fine → HeadFine r
 unfolding head_verdict
 head_fine r e =
-    let a = if_fine (ltb (length r) 2) 10 (length r) _ (not_none 9) e in
-    let b = if_fine (not (eqb (get_or r 0 0) 1)) 11 0 _ (not_none 10) a.1 in
-    let d = if_fine (ltb 64 (count_of r)) 11 1 _ (not_none 10) b.1 in
+    let a = if_fine (ltb (length r) 2) Length (length r) _ e in
+    let b = if_fine (not (eqb (get_or r 0 0) 1)) Head 0 _ a.1 in
+    let d = if_fine (ltb 64 (count_of r)) Head 1 _ b.1 in
     record { is_fine = simp (a.0, b.0, d.0); two_bytes = ltb-false _ _ a.0; few = ltb-false _ _ d.0 }
 
-pub entry_fine : (r : List ℕ) (i : ℕ) → (entry_verdict r i).number ≡ 0 → EntryFine r i
+pub entry_fine : (r : List ℕ) (i : ℕ) → entry_verdict r i ≡ fine → EntryFine r i
 unfolding entry_verdict
 entry_fine r i e =
-    let t1 = if_fine (ltb (length r) (entry_at i + 8)) 10 (length r) _ (not_none 9) e in
-    let t2 = if_fine (not (known (kind_at r i))) 12 (entry_at i) _ (not_none 11) t1.1 in
-    let t3 = if_fine (not (eqb (get_or r (entry_at i + 1) 0) 0)) 12 (entry_at i + 1) _ (not_none 11) t2.1 in
-    let t4 = if_fine (not (length_fits (kind_at r i) (length_at r i))) 12 (entry_at i + 2) _ (not_none 11) t3.1 in
-    let t5 = if_fine (ltb 65536 (start_of r i + length_at r i)) 12 (entry_at i + 2) _ (not_none 11) t4.1 in
-    let t6 = if_fine (not (eqb (offset_at r i) (start_of r i))) 12 (entry_at i + 4) _ (not_none 11) t5.1 in
+    let t1 = if_fine (ltb (length r) (entry_at i + 8)) Length (length r) _ e in
+    let t2 = if_fine (not (known (kind_at r i))) Entry (entry_at i) _ t1.1 in
+    let t3 = if_fine (not (eqb (get_or r (entry_at i + 1) 0) 0)) Entry (entry_at i + 1) _ t2.1 in
+    let t4 = if_fine (not (length_fits (kind_at r i) (length_at r i))) Entry (entry_at i + 2) _ t3.1 in
+    let t5 = if_fine (ltb 65536 (start_of r i + length_at r i)) Entry (entry_at i + 2) _ t4.1 in
+    let t6 = if_fine (not (eqb (offset_at r i) (start_of r i))) Entry (entry_at i + 4) _ t5.1 in
     record {
       is_fine = simp (t1.0, t2.0, t3.0, t4.0, t5.0, t6.0);
       in_file = ltb-false _ _ t1.0;
@@ -44,23 +46,20 @@ entry_fine r i e =
       placed = eqb-true _ _ (not-false _ t6.0);
     }
 
-pub moved_fine : (at : ℕ) (v : Verdict) → v.number ≡ 0 → moved at v ≡ fine
+pub moved_fine : (at : ℕ) (v : Verdict) → v ≡ fine → moved at v ≡ fine
 unfolding moved
-moved_fine at v h = rw (eq-eqb _ _ h)
+moved_fine at v h = rw h
 
-pub moved_bad : (at : ℕ) (v : Verdict) → (v.number ≡ 0 → ⊥) → moved at v ≡ bad v.number (at + v.place)
+pub moved_bad : (at : ℕ) (v : Verdict) (o : Offence) → v ≡ Err o → moved at v ≡ bad o.rule (at + o.place)
 unfolding moved
-moved_bad at v h = rw (ne_eqb _ _ h)
+moved_bad at v o h = rw h
 
-moved_number : (at : ℕ) (v : Verdict) → (moved at v).number ≡ 0 → v.number ≡ 0
+fine_moved : (at : ℕ) (v : Verdict) → moved at v ≡ fine → v ≡ fine
 unfolding moved
-moved_number at v e = go (eqb v.number 0) refl
-  where
-    go : (t : Bool) → eqb v.number 0 ≡ t → v.number ≡ 0
-    go true h = eqb-true _ _ h
-    go false h = rw h at e
+fine_moved at (Ok u) e = refl
+fine_moved at (Err o) e = absurd (cc)
 
-pub body_short : (r : List ℕ) (i : ℕ) → length r < start_of r i + length_at r i → body_verdict r i ≡ bad 10 (length r)
+pub body_short : (r : List ℕ) (i : ℕ) → length r < start_of r i + length_at r i → body_verdict r i ≡ bad Length (length r)
 unfolding body_verdict
 body_short r i h = rw (lt-ltb _ _ h)
 
@@ -69,62 +68,29 @@ pub body_is : (r : List ℕ) (i : ℕ) → start_of r i + length_at r i ≤ leng
 unfolding body_verdict
 body_is r i h = rw (le-ltb _ _ h)
 
-pub body_fine : (r : List ℕ) (i : ℕ) → (body_verdict r i).number ≡ 0 → BodyFine r i
+pub body_fine : (r : List ℕ) (i : ℕ) → body_verdict r i ≡ fine → BodyFine r i
 unfolding body_verdict
 body_fine r i e =
-    let t1 = if_fine (ltb (length r) (start_of r i + length_at r i)) 10 (length r) _ (not_none 9) e in
+    let t1 = if_fine (ltb (length r) (start_of r i + length_at r i)) Length (length r) _ e in
     let v = body_rules (kind_at r i) (body_at r i) in
-    let z = moved_number (start_of r i) v t1.1 in
+    let z = fine_moved (start_of r i) v t1.1 in
     record { is_fine = simp t1.0 (moved_fine (start_of r i) v z); in_file = ltb-false _ _ t1.0; rules = z }
 
-pub entries_fine : (r : List ℕ) → (first_of (count_of r) (entry_verdict r)).number ≡ 0 → EntriesFine r
+pub entries_fine : (r : List ℕ) → first_of (count_of r) (entry_verdict r) ≡ fine → EntriesFine r
 entries_fine r e = λ i h. entry_fine r i (first_each (entry_verdict r) (count_of r) i e h)
 
-end_fine : (r : List ℕ) → (end_verdict r).number ≡ 0 → length r ≤ start_of r (count_of r)
+end_fine : (r : List ℕ) → end_verdict r ≡ fine → length r ≤ start_of r (count_of r)
 unfolding end_verdict
-end_fine r e = ltb-false _ _ (if_fine (ltb (start_of r (count_of r)) (length r)) 14 (start_of r (count_of r)) _ (not_none 13) e).0
+end_fine r e = ltb-false _ _ (if_fine (ltb (start_of r (count_of r)) (length r)) Behind (start_of r (count_of r)) _ e).0
 
 pub end_good : (r : List ℕ) (end : ℕ) → end ≡ start_of r (count_of r) → length r ≤ end → fine ≡ end_verdict r
 unfolding end_verdict
 end_good r end e h = rw (le-ltb _ _ (rw e at h))
 
--- ---- the verdict, by the part that offends first
-module _ (r : List ℕ) (v : Verdict) where
-  bad_as : (w : Verdict) → v ≡ w → (v.number ≡ 0 → ⊥) → w.number ≡ 0 → ⊥
-  bad_as w e z y = z (ap (λ (u : Verdict). u.number) e ∙ y)
-
-  pub by_head : v ≡ head_verdict r → (v.number ≡ 0 → ⊥) → v ≡ verdict_of r
-  unfolding verdict_of
-  by_head e z = e ∙ sym (else_bad (head_verdict r) _ (bad_as _ e z))
-
-  module _ (h : (head_verdict r).number ≡ 0) where
-    pub by_entries : v ≡ first_of (count_of r) (entry_verdict r) → (v.number ≡ 0 → ⊥) → v ≡ verdict_of r
-    unfolding verdict_of
-    by_entries e z = e ∙ sym (else_next (head_verdict r) _ h ∙ else_bad (first_of (count_of r) (entry_verdict r)) _ (bad_as _ e z))
-
-    module _ (en : (first_of (count_of r) (entry_verdict r)).number ≡ 0) where
-      pub by_bodies : v ≡ first_of (count_of r) (body_verdict r) → (v.number ≡ 0 → ⊥) → v ≡ verdict_of r
-      unfolding verdict_of
-      by_bodies e z =
-          e
-          ∙ sym
-          (else_next (head_verdict r) _ h
-          ∙ else_next (first_of (count_of r) (entry_verdict r)) _ en
-          ∙ else_bad (first_of (count_of r) (body_verdict r)) _ (bad_as _ e z))
-
-      pub by_end : (first_of (count_of r) (body_verdict r)).number ≡ 0 → v ≡ end_verdict r → v ≡ verdict_of r
-      unfolding verdict_of
-      by_end b e =
-          e
-          ∙ sym
-          (else_next (head_verdict r) _ h
-          ∙ else_next (first_of (count_of r) (entry_verdict r)) _ en
-          ∙ else_next (first_of (count_of r) (body_verdict r)) _ b)
-
 -- ---- the laws for callers
 
 -- a fine verdict, and all that it tells
-pub rack_fine : (r : List ℕ) → (verdict_of r).number ≡ 0 → RackFine r
+pub rack_fine : (r : List ℕ) → verdict_of r ≡ fine → RackFine r
 unfolding verdict_of
 rack_fine r e =
     let h = else_fine (head_verdict r) _ e in
@@ -145,14 +111,14 @@ rack_fine r e =
 
 -- and a rack of which all that holds has it
 pub fine_rack : (r : List ℕ) → RackFine r → verdict_of r ≡ fine
+unfolding verdict_of
 fine_rack r ok =
-    let number : Verdict → ℕ = λ v. v.number in
-    let en = ap number (first_all (entry_verdict r) (count_of r) (λ i h. (ok.entry i h).is_fine)) in
-    let bo = ap number (first_all (body_verdict r) (count_of r) (λ i h. (ok.body i h).is_fine)) in
-    sym (by_end r fine (ap number ok.head.is_fine) en bo (end_good r (length r) (sym ok.whole) (omega arith)))
+    let en = first_all (entry_verdict r) (count_of r) (λ i h. (ok.entry i h).is_fine) in
+    let bo = first_all (body_verdict r) (count_of r) (λ i h. (ok.body i h).is_fine) in
+    rw (ok.head.is_fine, en, bo) (sym (end_good r (length r) (sym ok.whole) (omega arith)))
 
 -- document 01, "Rack file": at most 65,536 bytes
-pub most_bytes : (r : List ℕ) → (verdict_of r).number ≡ 0 → length r ≤ 65536
+pub most_bytes : (r : List ℕ) → verdict_of r ≡ fine → length r ≤ 65536
 most_bytes r e = go (rack_fine r e) (count_of r) refl
   where
     go : RackFine r → (n : ℕ) → n ≡ count_of r → length r ≤ 65536

@@ -10,7 +10,7 @@ use lib.Seq.{get_or-drop}
 use Rattle.frame.specs.Number.{num, part}
 use Rattle.frame.proofs.Bools.{if_true, if_false}
 use Rattle.frame.proofs.Lists.{drop_head}
-use Rattle.rack.specs.File.{count_of, entry_at, kind_of, kind_at, length_at, start_of}
+use Rattle.rack.specs.File.{count_of, entry_at, kind_at, length_at, start_of}
 use Rattle.rack.specs.declared.place.Held.{Held}
 use Rattle.rack.specs.Place.{holder_on, holder_of, IsHeld}
 use Rattle.rack.proofs.FilePlaces.{start_none, start_more}
@@ -81,7 +81,7 @@ module _ {r : List ℕ} {place n i at : ℕ} (w : Walking r place n i at) where
         }
 
 pub is_held : {r : List ℕ} {place tag at : ℕ} {h : Held} → tag ≡ holder_of r place → at ≡ start_of r tag
-    → (h.tag ≡ tag) × (h.start ≡ at) × (kind_of h.kind ≡ kind_at r tag) → IsHeld r place h
+    → (h.tag ≡ tag) × (h.start ≡ at) × (h.kind ≡ kind_at r tag) → IsHeld r place h
 is_held {r} e s f =
     record {
       tag = f.0 ∙ e;

@@ -1,33 +1,34 @@
 -- One tag: each law of a label's body and of a chip's, as one law by the kind. A body of kind `Other` stays as it is and says nothing, and no
 -- length fits that kind. A sound signal is what a decoded event is. Assumes nothing.
-use Rattle.std.specs.Prelude.{if◌then◌else◌}
-use mathlib.Core.Path.{◌≡◌, refl, ap}
-use mathlib.Core.Bool.{Bool, true, false, not, ◌&&◌, ◌||◌, false≢true}
+use Rattle.std.specs.Prelude.{IfErr, Ok, Err}
+use mathlib.Core.Path.{◌≡◌, refl}
+use mathlib.Core.Bool.{true, not, ◌&&◌, ◌||◌, false≢true}
 use mathlib.Core.List.{List}
 use Prim.Native.Nat.{ℕ, ◌≤◌, ◌<◌}
 use native.Mathlib.Omega.{arith}
-use borrow.Author.Tests.{eqb-true, leb-true, ne_eqb}
+use borrow.Author.Tests.{eqb-true, leb-true}
 use lib.Dec.{eqb, ltb, leb}
 use lib.ListN.{length, get_or}
 use Rattle.frame.specs.Number.{Bytes}
-use Rattle.frame.specs.declared.verdict.Verdict.{Verdict}
+use Rattle.frame.specs.Judge.{Verdict, fine}
 use Rattle.frame.proofs.Bools.{and_both, if_both}
 use Rattle.label.specs.declared.step.Answer.{Answer}
 use Rattle.label.specs.declared.step.Answer.TheVariants as a
 use Rattle.label_body.specs.Body.{Sized, label_rules, next_label}
 use Rattle.label_body.specs.Facts.{LabelFine, AnswerFits}
 use Rattle.request.proofs.LabelSound as label-decoded
-use Rattle.label_body.proofs.LocksLaws.{room_same}
+use Rattle.label_body.proofs.LocksLaws.{room_same, Within}
 use Rattle.label_body.proofs.FactsFine as label-fine
 use Rattle.label_body.proofs.BodyKeeps as label-keeps
 use Rattle.label_body.proofs.AnswerFrames as label-answers
+use Rattle.label_body.proofs.BodyRoom.{sized_long}
 use Rattle.label_body.proofs.Floor.{numbers_stay}
 use Rattle.chip_body.specs.Body.{chip_rules}
 use Rattle.chip_body.proofs.BodyKeeps as chip-keeps
 use Rattle.request.proofs.ChipSound as chip-decoded
 use Rattle.chip_body.proofs.AnswerFrames as chip-answers
 use Rattle.rack.specs.File.{Kind, Label, Chip, Other}
-use Rattle.rack.specs.File.{kind_of, known, length_fits, body_rules}
+use Rattle.rack.specs.File.{length_fits, body_rules}
 use Rattle.rack.specs.Facts.{TagFine, Sayable}
 use Rattle.rack.specs.Tag.{Event, aired, next_body, said_by, frame_of}
 
@@ -47,33 +48,6 @@ signal_sound number f b =
       asked = chip-decoded.heard_sound number f b;
     }
 
--- ---- what a byte names
-
-pub kind_label : (n : ℕ) → n ≡ 1 → kind_of n ≡ Label
-unfolding kind_of
-kind_label n e = rw e
-
-pub kind_chip : (n : ℕ) → n ≡ 2 → kind_of n ≡ Chip
-unfolding kind_of
-kind_chip n e = rw e
-
-pub kind_other : (n : ℕ) → (n ≡ 1 → ⊥) → (n ≡ 2 → ⊥) → kind_of n ≡ Other
-unfolding kind_of
-kind_other n f g = rw (ne_eqb n 1 f, ne_eqb n 2 g)
-
--- what names no label
-pub kind_none : (P : Kind → Type 0) (n : ℕ) → (n ≡ 1 → ⊥) → P Chip → P Other → P (kind_of n)
-unfolding kind_of
-kind_none P n f chip other = rw (ne_eqb n 1 f) (if_both P (eqb n 2) chip other)
-
-pub known_chip : (n : ℕ) → (n ≡ 1 → ⊥) → eqb n 2 ≡ known (kind_of n)
-unfolding kind_of
-known_chip n f = rw (ne_eqb n 1 f) (go (eqb n 2))
-  where
-    go : (t : Bool) → t ≡ known (if t then Chip else Other)
-    go true = refl
-    go false = refl
-
 -- ---- what a length that fits is
 
 pub fits_label : (n : ℕ) → length_fits Label n ≡ true → (34 ≤ n) × (n ≤ 8480)
@@ -92,12 +66,15 @@ fits_none n h = false≢true h
 
 -- ---- what a fine body of its kind is
 
-label_kept : (b : List ℕ) → TagFine Label b → (label_rules b).number ≡ 0
+label_kept : (b : List ℕ) → TagFine Label b → label_rules b ≡ fine
 unfolding body_rules
 label_kept b f = f.rules
 
 pub label_sized : (b : List ℕ) → TagFine Label b → Sized b
 label_sized b f = label-fine.sized_of b (label_kept b f)
+
+pub label_long : (b : List ℕ) → TagFine Label b → 32 ≤ length b
+label_long b f = sized_long b (label_sized b f)
 
 pub label_facts : (b : List ℕ) → Bytes b → TagFine Label b → LabelFine b
 label_facts b bytes f = label-fine.rules_fine b bytes (label_kept b f)
@@ -109,28 +86,25 @@ chip_facts b f = chip-keeps.rules_fine b f.rules
 pub chip_80 : (b : List ℕ) → TagFine Chip b → length b ≡ 80
 chip_80 b f = fits_chip (length b) f.fits
 
--- ---- the rules' verdict, and its place in the body
+-- ---- the place of an offence, in the body
 
-chip_place : (b : List ℕ) → (chip_rules b).place ≤ 8480
+within_place : (k : ℕ) (v : Verdict) → Within k v → IfErr v (λ o. o.place ≤ k)
+within_place k (Ok u) h = tt
+within_place k (Err o) h = h
+
+pub label_place : (b : List ℕ) → length_fits Label (length b) ≡ true → IfErr (label_rules b) (λ o. o.place ≤ 8480)
+label_place b f = within_place 8480 (label_rules b) (label-fine.rules_place b (fits_label (length b) f).1)
+
+pub chip_place : (b : List ℕ) → IfErr (chip_rules b) (λ o. o.place ≤ 8480)
 unfolding chip_rules
 chip_place b =
-    let P : Verdict → Type 0 = λ v. v.place ≤ 8480 in
+    let P : Verdict → Type 0 = λ v. IfErr v (λ o. o.place ≤ 8480) in
     if_both P (ltb 5 (get_or b 76 0)) (omega arith)
     (if_both P (eqb (get_or b 76 0) 0 && not (eqb (get_or b 77 0) 0)) (omega arith)
     (if_both P (ltb 1 (get_or b 78 0) || (eqb (get_or b 78 0) 1 && not (eqb (get_or b 76 0) 3))) (omega arith)
     (if_both P
     (ltb 1 (get_or b 79 0) || (eqb (get_or b 79 0) 1 && (not (eqb (get_or b 76 0) 0) && not (eqb (get_or b 77 0) (get_or b 64 0)))))
-    (omega arith) (omega arith))))
-
-rules_place : (kind : Kind) (b : List ℕ) → length_fits kind (length b) ≡ true → (body_rules kind b).place ≤ 8480
-unfolding body_rules
-rules_place Label b f = label-fine.rules_place b (fits_label (length b) f).1
-rules_place Chip b f = chip_place b
-rules_place Other b f = omega arith
-
-pub judged : (kind : Kind) (b : List ℕ) (v : Verdict) → length_fits kind (length b) ≡ true → v ≡ body_rules kind b
-    → (v ≡ body_rules kind b) × (v.place ≤ 8480)
-judged kind b v f e = (e, rw e (rules_place kind b f))
+    (omega arith) tt)))
 
 -- ---- a step
 
@@ -156,12 +130,12 @@ body_bytes Label event d b s =
 body_bytes Chip event d b s = chip-keeps.next_bytes event.signal.chip d b s.bytes s.draw
 body_bytes Other event d b s = s.bytes
 
-keeps : (kind : Kind) (event : Event) (d : ℕ) (b : List ℕ) → Stepping kind event d b → (body_rules kind (next_body kind event d b)).number ≡ 0
+keeps : (kind : Kind) (event : Event) (d : ℕ) (b : List ℕ) → Stepping kind event d b → body_rules kind (next_body kind event d b) ≡ fine
 unfolding next_body body_rules
 keeps Label event d b s =
     let g = label_facts b s.bytes s.fine in
     let m = label-keeps.next_keeps event.signal.label event.bytes b s.bytes g s.sound.call in
-    ap (λ (v : Verdict). v.number) (label-fine.fine_rules (next_label event.signal.label event.bytes b) (body_bytes Label event d b s) m)
+    label-fine.fine_rules (next_label event.signal.label event.bytes b) (body_bytes Label event d b s) m
 keeps Chip event d b s = chip-keeps.next_keeps event.signal.chip d b (chip_80 b s.fine) s.bytes s.fine.rules
 keeps Other event d b s = refl
 

@@ -27,7 +27,7 @@ EntriesFine r = (i : ℕ) → i < count_of r → EntryFine r i
 pub record BodyFine (r : List ℕ) (i : ℕ) : Type 0 where
   pub is_fine : body_verdict r i ≡ fine
   pub in_file : start_of r i + length_at r i ≤ length r
-  pub rules : (body_rules (kind_at r i) (body_at r i)).number ≡ 0
+  pub rules : body_rules (kind_at r i) (body_at r i) ≡ fine
 
 pub record RackFine (r : List ℕ) : Type 0 where
   pub head : HeadFine r
@@ -43,7 +43,7 @@ pub record Fine (r : List ℕ) : Type 0 where
 -- a body of its kind that keeps its rules
 pub record TagFine (kind : Kind) (b : List ℕ) : Type 0 where
   pub fits : length_fits kind (length b) ≡ true
-  pub rules : (body_rules kind b).number ≡ 0
+  pub rules : body_rules kind b ≡ fine
 
 -- something that a body can say: what the answer's writer needs
 unfoldable pub Sayable : Said → List ℕ → Type 0

@@ -1,11 +1,13 @@
 -- Document 01, "Rack file": what is read where, and the first offence in file order (the parts and places of document 02, P5). Assumes nothing.
-use Rattle.std.specs.Prelude.{Bool, true, false, not, ◌&&◌, List, ◌++◌, ℕ, zero, suc, ◌+◌, ◌*◌, eqb, ltb, leb, length, get_or, take, if◌then◌else◌}
+use Rattle.std.specs.Prelude.{Bool, true, false, not, ◌&&◌, List, ◌++◌, ℕ, zero, suc, ◌+◌, ◌*◌, eqb, ltb, leb, length, get_or, take, if◌then◌else◌, Ok, Err}
 use Rattle.frame.specs.Choose.{gather}
 use Rattle.frame.specs.Number.{num, part}
-use Rattle.frame.specs.Judge.{fine, bad, or_else, first_of}
-use Rattle.frame.specs.declared.verdict.Verdict.{Verdict}
+use Rattle.frame.specs.Judge.{Verdict, fine, bad, or_else, first_of}
+use Rattle.frame.specs.declared.verdict.Rule.TheVariants.{Length, Head, Entry, Behind}
 use Rattle.label_body.specs.Body.{label_rules}
 use Rattle.chip_body.specs.Body.{chip_rules}
+pub use Rattle.rack.specs.declared.tag.Kind.{Kind}
+pub use Rattle.rack.specs.declared.tag.Kind.TheVariants.{Label, Chip, Other}
 
 -- ---- what stands where
 
@@ -17,12 +19,7 @@ count_of r = get_or r 1 0
 abbrev pub entry_at : ℕ → ℕ
 entry_at i = 2 + 8 * i
 
-pub data Kind : Type 0 where
-  Label : Kind
-  Chip : Kind
-  -- no tag has this kind
-  Other : Kind
-
+-- what the first byte of an entry names; no tag is of another kind
 unfoldable pub kind_of : ℕ → Kind
 kind_of n = if eqb n 1 then Label else if eqb n 2 then Chip else Other
 
@@ -55,9 +52,9 @@ rebuilt r bodies = contents r ++ gather (count_of r) bodies
 -- edition 1, at most 64 tags
 unfoldable pub head_verdict : List ℕ → Verdict
 head_verdict r =
-    if ltb (length r) 2 then bad 10 (length r)
-    else if not (eqb (get_or r 0 0) 1) then bad 11 0
-    else if ltb 64 (count_of r) then bad 11 1
+    if ltb (length r) 2 then bad Length (length r)
+    else if not (eqb (get_or r 0 0) 1) then bad Head 0
+    else if ltb 64 (count_of r) then bad Head 1
     else fine
 
 abbrev pub known : Kind → Bool
@@ -74,12 +71,12 @@ length_fits Other len = false
 -- kind, zero, length, at most 65,536 bytes, offset
 unfoldable pub entry_verdict : List ℕ → ℕ → Verdict
 entry_verdict r i =
-    if ltb (length r) (entry_at i + 8) then bad 10 (length r)
-    else if not (known (kind_at r i)) then bad 12 (entry_at i)
-    else if not (eqb (get_or r (entry_at i + 1) 0) 0) then bad 12 (entry_at i + 1)
-    else if not (length_fits (kind_at r i) (length_at r i)) then bad 12 (entry_at i + 2)
-    else if ltb 65536 (start_of r i + length_at r i) then bad 12 (entry_at i + 2)
-    else if not (eqb (offset_at r i) (start_of r i)) then bad 12 (entry_at i + 4)
+    if ltb (length r) (entry_at i + 8) then bad Length (length r)
+    else if not (known (kind_at r i)) then bad Entry (entry_at i)
+    else if not (eqb (get_or r (entry_at i + 1) 0) 0) then bad Entry (entry_at i + 1)
+    else if not (length_fits (kind_at r i) (length_at r i)) then bad Entry (entry_at i + 2)
+    else if ltb 65536 (start_of r i + length_at r i) then bad Entry (entry_at i + 2)
+    else if not (eqb (offset_at r i) (start_of r i)) then bad Entry (entry_at i + 4)
     else fine
 
 -- the rules of a body, by its kind; places count from the body's start
@@ -90,16 +87,17 @@ body_rules Other b = fine
 
 -- the verdict on what starts at a place, as a verdict on the file
 unfoldable pub moved : ℕ → Verdict → Verdict
-moved at v = if eqb v.number 0 then fine else bad v.number (at + v.place)
+moved at (Ok _) = fine
+moved at (Err offence) = bad offence.rule (at + offence.place)
 
 unfoldable pub body_verdict : List ℕ → ℕ → Verdict
 body_verdict r i =
-    if ltb (length r) (start_of r i + length_at r i) then bad 10 (length r)
+    if ltb (length r) (start_of r i + length_at r i) then bad Length (length r)
     else moved (start_of r i) (body_rules (kind_at r i) (body_at r i))
 
 -- nothing after the last
 unfoldable pub end_verdict : List ℕ → Verdict
-end_verdict r = if ltb (start_of r (count_of r)) (length r) then bad 14 (start_of r (count_of r)) else fine
+end_verdict r = if ltb (start_of r (count_of r)) (length r) then bad Behind (start_of r (count_of r)) else fine
 
 unfoldable pub verdict_of : List ℕ → Verdict
 verdict_of r =

@@ -1,6 +1,6 @@
 -- Whose a place of a rack file is, also of one that is not well-formed. Assumes nothing.
 use Rattle.std.specs.Prelude.{◌≡◌, List, ℕ, zero, suc, ◌+◌, ◌-◌, ◌/◌, ◌%◌, ltb, if◌then◌else◌}
-use Rattle.rack.specs.File.{count_of, kind_of, kind_at, start_of}
+use Rattle.rack.specs.File.{count_of, kind_at, start_of}
 use Rattle.rack.specs.declared.place.Held.{Held}
 
 -- the tag whose entry holds a place, and where in that entry it stands
@@ -23,4 +23,4 @@ holder_of r place = holder_on r place 0 (count_of r)
 pub record IsHeld (r : List ℕ) (place : ℕ) (h : Held) : Type 0 where
   pub tag : h.tag ≡ holder_of r place
   pub start : h.start ≡ start_of r (holder_of r place)
-  pub kind : kind_of h.kind ≡ kind_at r (holder_of r place)
+  pub kind : h.kind ≡ kind_at r (holder_of r place)

@@ -1,9 +1,10 @@
 // Whose a place of a rack file is, also of one that is not well-formed: what a refusal names.
-ghost use Rattle.std.specs.Prelude.{◌≡◌, ◌-◌, ◌≤◌, ◌<◌};
-ghost use Rattle.rack.specs.File.{kind_of, kind_at, length_at};
+ghost use Rattle.std.specs.Prelude.{◌≡◌, ◌≤◌, ◌<◌};
+ghost use Rattle.rack.specs.File.{kind_at, length_at};
 ghost use Rattle.rack.specs.Place.{entry_of, within_entry, holder_of, IsHeld};
 
 use crate::file::entry_of;
+use crate::tag::Kind;
 use frame::number::byte_at;
 
 // A tag, where its body starts, and its kind.
@@ -11,31 +12,21 @@ use frame::number::byte_at;
 pub struct Held {
     pub tag: usize,
     pub start: usize,
-    pub kind: u8,
-}
-
-// The contents stand behind two bytes.
-fn behind_head(place: usize) -> usize
-    ensures { result ≡ place - 2 }
-{
-    if place < 2 {
-        return 0;
-    }
-    place - 2
+    pub kind: Kind,
 }
 
 // The tag whose entry holds a place.
 pub fn entry_holding(place: usize) -> usize
     ensures { result ≡ entry_of place }
 {
-    behind_head(place) / 8
+    place.saturating_sub(2) / 8
 }
 
 // Where in that entry it stands.
 pub fn within_entry(place: usize) -> usize
     ensures { result ≡ within_entry place }
 {
-    behind_head(place) % 8
+    place.saturating_sub(2) % 8
 }
 
 // The length of body i, from its entry, as far as that stands in the file.
@@ -46,14 +37,14 @@ fn length_at(rack: &[u8], i: usize) -> usize
     let entry = entry_of(i);
     let low = byte_at(rack, entry + 2);
     let high = byte_at(rack, entry + 3);
-    low as usize + high as usize * 256
+    usize::from(low) + usize::from(high) * 256
 }
 
 fn as_held(rack: &[u8], tag: usize, start: usize) -> Held
     requires { tag ≤ 255 }
-    ensures { (result.tag ≡ tag) × (result.start ≡ start) × (kind_of result.kind ≡ kind_at rack.now tag) }
+    ensures { (result.tag ≡ tag) × (result.start ≡ start) × (result.kind ≡ kind_at rack.now tag) }
 {
-    let kind = byte_at(rack, entry_of(tag));
+    let kind = Kind::from(byte_at(rack, entry_of(tag)));
     Held { tag, start, kind }
 }
 
@@ -61,16 +52,14 @@ fn as_held(rack: &[u8], tag: usize, start: usize) -> Held
 pub fn holder(rack: &[u8], place: usize) -> Held
     ensures { IsHeld rack.now place result }
 {
-    let n = byte_at(rack, 1) as usize;
+    let n = usize::from(byte_at(rack, 1));
     let mut at = entry_of(n);
-    let mut i = 0;
-    while i < n {
+    for i in 0..n {
         let next = at + length_at(rack, i);
         if place < next {
             return as_held(rack, i, at);
         }
         at = next;
-        i += 1;
     }
-    as_held(rack, i, at)
+    as_held(rack, n, at)
 }

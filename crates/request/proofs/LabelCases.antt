@@ -17,7 +17,7 @@ use Rattle.request.specs.declared.label.Target.{Target}
 use Rattle.request.specs.declared.label.Family.{Family}
 use Rattle.request.specs.declared.label.Call.TheVariants.{Nobody, Inventory, Fault, Do}
 use Rattle.request.specs.declared.table.Row.{Row}
-use Rattle.request.specs.declared.table.Found.TheVariants.{Known, Missing}
+use Rattle.std.specs.Prelude.{None, Some}
 use Rattle.request.specs.Table.{table, lookup, option_fits}
 use Rattle.request.specs.Label.{flag, bare, nobody, most, masked, target_fits, faulty, both, by_row, checked, call, addressing, decode, data_of}
 
@@ -62,11 +62,11 @@ module _ (to : Target) (option : Bool) (ps : List ℕ) (row : Row) {t : Bool} (e
         row_option h = rw (← e, fit, z, eq-eqb _ _ l, ← f, h)
 
 module _ (to : Target) (c : ℕ) (option : Bool) (ps : List ℕ) (z : c ≡ 1 → ⊥) where
-  pub call_unknown : lookup c table ≡ Missing → call to c option ps ≡ Fault to 1
+  pub call_unknown : lookup c table ≡ None → call to c option ps ≡ Fault to 1
   unfolding call checked
   call_unknown e = rw (ne_eqb _ _ z, e)
 
-  pub call_known : (row : Row) → lookup c table ≡ Known row → call to c option ps ≡ by_row to option ps row
+  pub call_known : (row : Row) → lookup c table ≡ Some row → call to c option ps ≡ by_row to option ps row
   unfolding call checked
   call_known row e = rw (ne_eqb _ _ z, e)
 

@@ -18,8 +18,7 @@ use Rattle.frame.proofs.Bools.{if_either, if_both}
 use Rattle.frame.proofs.Numbers.{bytes_part}
 use Rattle.request.specs.declared.table.Task.{Task}
 use Rattle.request.specs.declared.table.Row.{Row}
-use Rattle.request.specs.declared.table.Found.{Found}
-use Rattle.request.specs.declared.table.Found.TheVariants.{Known, Missing}
+use Rattle.std.specs.Prelude.{Option, None, Some}
 use Rattle.request.specs.declared.label.Target.{Target}
 use Rattle.request.specs.declared.label.Target.TheVariants.{Everyone, Selected, One}
 use Rattle.request.specs.declared.label.Family.{Family}
@@ -95,10 +94,10 @@ module _ (P : Call → Type 0) (f : List ℕ) (none : P Nobody)
         (if_both P (not (eqb (length (params at f) + 4) row.len)) (faulty_ends to row 2)
         (if_both P (not (option_fits row option)) (faulty_ends to row 3) (does to row.task at option))))
 
-    checked_ends : (to : Target) (option : Bool) (at : ℕ) (found : Found) → P (checked to option (params at f) found)
+    checked_ends : (to : Target) (option : Bool) (at : ℕ) (found : Option Row) → P (checked to option (params at f) found)
     unfolding checked
-    checked_ends to option at Missing = fault to 1
-    checked_ends to option at (Known row) = row_ends to option at row
+    checked_ends to option at None = fault to 1
+    checked_ends to option at (Some row) = row_ends to option at row
 
     call_ends : (to : Target) (c : ℕ) (option : Bool) (at : ℕ) → P (call to c option (params at f))
     unfolding call

@@ -9,13 +9,13 @@ use Rattle.request.specs.Table.{row_of, table, lookup}
 use Rattle.request.specs.declared.table.Task.{Task}
 use Rattle.request.specs.declared.table.Task.TheVariants as t
 use Rattle.request.specs.declared.table.Row.{Row}
-use Rattle.request.specs.declared.table.Found.TheVariants.{Known}
+use Rattle.std.specs.Prelude.{Some}
 
 -- a code that is found and is not Inventory's; four bytes without a UID and one more for a parameter, of which there are at most two; before a block
 -- stands one
 pub record RowFine (task : Task) (row : Row) : Type 0 where
   pub named : row.task ≡ task
-  pub found : lookup row.code table ≡ Known row
+  pub found : lookup row.code table ≡ Some row
   pub other : eqb row.code 1 ≡ false
   pub byte : row.code < 256
   pub least : 4 ≤ row.len
@@ -23,7 +23,7 @@ pub record RowFine (task : Task) (row : Row) : Type 0 where
   pub block : row.block ≡ true → row.len ≡ 5
 
 -- from tests that compute
-fine : (task : Task) (row : Row) → row.task ≡ task → lookup row.code table ≡ Known row → eqb row.code 1 ≡ false → ltb row.code 256 ≡ true
+fine : (task : Task) (row : Row) → row.task ≡ task → lookup row.code table ≡ Some row → eqb row.code 1 ≡ false → ltb row.code 256 ≡ true
     → leb 4 row.len ≡ true → leb row.len 6 ≡ true → (not row.block || eqb row.len 5) ≡ true → RowFine task row
 fine task row n f o b l m k =
     record {

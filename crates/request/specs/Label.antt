@@ -1,13 +1,11 @@
 -- Document 01, "Labels" and "Events": what an event asks of labels, whatever the label. Assumes nothing.
-use Rattle.std.specs.Prelude.{Bool, true, false, not, ◌&&◌, ◌||◌, List, ℕ, ◌+◌, ◌-◌, eqb, ltb, length, get_or, replicate, if◌then◌else◌}
+use Rattle.std.specs.Prelude.{Bool, true, false, not, ◌&&◌, ◌||◌, List, ℕ, ◌+◌, ◌-◌, eqb, ltb, length, get_or, replicate, Option, None, Some, if◌then◌else◌}
 use Rattle.frame.specs.Choose.{bit, set?}
 use Rattle.frame.specs.Number.{part}
 use Rattle.frame.specs.CheckSum.{right}
 use Rattle.frame.specs.Ending.{bytes_for, mask_at}
 use Rattle.request.specs.Table.{table, lookup, has_answer, option_fits}
 use Rattle.request.specs.declared.table.Row.{Row}
-use Rattle.request.specs.declared.table.Found.{Found}
-use Rattle.request.specs.declared.table.Found.TheVariants.{Known, Missing}
 use Rattle.request.specs.declared.label.Target.{Target}
 use Rattle.request.specs.declared.label.Target.TheVariants.{Everyone, Selected, One}
 use Rattle.request.specs.declared.label.Family.{Family}
@@ -76,9 +74,9 @@ by_row to option ps row =
     else Do to row.task (both (get_or ps 0 0) (get_or ps 1 0)) option
 
 -- unknown code, error 01
-unfoldable pub checked : Target → Bool → List ℕ → Found → Call
-checked to option ps Missing = Fault to 1
-checked to option ps (Known row) = by_row to option ps row
+unfoldable pub checked : Target → Bool → List ℕ → Option Row → Call
+checked to option ps None = Fault to 1
+checked to option ps (Some row) = by_row to option ps row
 
 -- command 01 here: silence
 unfoldable pub call : Target → ℕ → Bool → List ℕ → Call

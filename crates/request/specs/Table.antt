@@ -1,13 +1,12 @@
 -- Document 01, "Labels": "The fixed lengths stand in one small table, without UID"; what else goes with a code stands beside its length; 23 and 2C are
 -- document 02's, P2. Assumes nothing.
-use Rattle.std.specs.Prelude.{Bool, true, false, not, ◌||◌, List, [], ◌∷◌, ℕ, eqb, if◌then◌else◌}
+use Rattle.std.specs.Prelude.{Bool, true, false, not, ◌||◌, List, [], ◌∷◌, ℕ, eqb, Option}
+use Rattle.std.specs.List.{find}
 use Rattle.request.specs.declared.table.Task.{Task}
 use Rattle.request.specs.declared.table.Task.TheVariants as t
 use Rattle.request.specs.declared.table.Success.{Success}
 use Rattle.request.specs.declared.table.Success.TheVariants.{Never, Done, Block, Info, Blocks, Locks}
 use Rattle.request.specs.declared.table.Row.{Row}
-use Rattle.request.specs.declared.table.Found.{Found}
-use Rattle.request.specs.declared.table.Found.TheVariants.{Known, Missing}
 
 abbrev row : Task → ℕ → ℕ → Bool → Bool → Bool → Success → Row
 row task code len block option one success = record { task = task; code = code; len = len; block = block; option = option; one = one; success = success }
@@ -46,9 +45,8 @@ table =
     ∷ []
 
 -- the first row with the code c
-unfoldable pub lookup : ℕ → List Row → Found
-lookup c [] = Missing
-lookup c (r ∷ rs) = if eqb r.code c then Known r else lookup c rs
+unfoldable pub lookup : ℕ → List Row → Option Row
+lookup c = find (λ r. eqb r.code c)
 
 -- Stay quiet is always silent
 abbrev pub has_answer : Success → Bool

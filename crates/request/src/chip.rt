@@ -23,106 +23,78 @@ pub enum Order {
 }
 
 // Addresses are 0 to 15 and 255.
+#[tactic(auto, unfolding(crate::specs::Chip::listed))]
 pub fn is_listed(a: u8) -> bool
     ensures { result ≡ listed a }
 {
-    if a < 16 {
-        return true;
-    }
-    a == 255
+    a < 16 || a == 255
 }
 
 // A frame of three bytes with code c.
+#[tactic(auto, unfolding(crate::specs::Chip::short))]
 fn short_order(c: u8) -> Order
     ensures { result ≡ short c }
 {
-    if c == 0x0B {
-        return Order::Uid;
+    match c {
+        0x0B => Order::Uid,
+        0x0C => Order::Reset,
+        0x0F => Order::Completion,
+        _ if c % 16 != 6 || c / 16 == 0 => Order::Ignored,
+        _ => Order::Marker(c / 16),
     }
-    if c == 0x0C {
-        return Order::Reset;
-    }
-    if c == 0x0F {
-        return Order::Completion;
-    }
-    if c % 16 != 6 {
-        return Order::Ignored;
-    }
-    if c / 16 == 0 {
-        return Order::Ignored;
-    }
-    Order::Marker(c / 16)
 }
 
 // A frame of four bytes with code c and the byte p behind it.
+#[tactic(auto, unfolding(crate::specs::Chip::pair))]
 fn pair_order(c: u8, p: u8) -> Order
     ensures { result ≡ pair c p }
 {
-    if c == 0x06 {
-        if p == 0 {
-            return Order::Initiate;
-        }
-        if p == 4 {
-            return Order::Pcall;
-        }
-        return Order::Ignored;
+    match (c, p) {
+        (0x06, 0) => Order::Initiate,
+        (0x06, 4) => Order::Pcall,
+        (0x0E, id) => Order::Select(id),
+        (0x08, a) if is_listed(a) => Order::Read(a),
+        _ => Order::Ignored,
     }
-    if c == 0x0E {
-        return Order::Select(p);
-    }
-    if c != 0x08 {
-        return Order::Ignored;
-    }
-    if is_listed(p) {
-        return Order::Read(p);
-    }
-    Order::Ignored
 }
 
 // A frame of eight bytes with code c, address a and the block w.
+#[tactic(auto, unfolding(crate::specs::Chip::long))]
 fn long_order(c: u8, a: u8, w: u32) -> Order
     ensures { result ≡ long c a w }
 {
-    if c != 0x09 {
-        return Order::Ignored;
+    if c == 0x09 && is_listed(a) {
+        Order::Write(a, w)
+    } else {
+        Order::Ignored
     }
-    if is_listed(a) {
-        return Order::Write(a, w);
-    }
-    Order::Ignored
 }
 
 // What a chip frame asks.
+#[tactic(auto, unfolding(crate::specs::Chip::decode))]
 pub fn decode_frame(f: &[u8]) -> Order
     ensures { result ≡ decode f.now }
 {
     if !is_right(f) {
         return Order::Ignored;
     }
-    if f.len() == 3 {
-        return short_order(f[0]);
+    match f.len() {
+        3 => short_order(f[0]),
+        4 => pair_order(f[0], f[1]),
+        8 => long_order(f[0], f[1], word_at(f, 2)),
+        _ => Order::Ignored,
     }
-    if f.len() == 4 {
-        return pair_order(f[0], f[1]);
-    }
-    if f.len() == 8 {
-        return long_order(f[0], f[1], word_at(f, 2));
-    }
-    Order::Ignored
 }
 
 // What event `number` with frame f asks.
+#[tactic(auto, unfolding(crate::specs::Chip::heard))]
 pub fn hear(number: u8, f: &[u8]) -> Order
     ensures { result ≡ heard number f.now }
 {
-    if number == 1 {
-        return Order::Off;
+    match number {
+        1 => Order::Off,
+        2 => Order::On,
+        5 => decode_frame(f),
+        _ => Order::Ignored,
     }
-    if number == 2 {
-        return Order::On;
-    }
-    if number == 5 {
-        return decode_frame(f);
-    }
-    Order::Ignored
 }

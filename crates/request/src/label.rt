@@ -3,7 +3,7 @@ ghost use Rattle.std.specs.Prelude.{◌≡◌, ◌≤◌, ◌<◌, length};
 ghost use Rattle.request.specs.Label.{bare, nobody, most, masked, inventory, is_one, target_fits, faulty, by_row, call};
 ghost use Rattle.request.specs.Label.{addressed, unaddressed, addressing, decode, heard, data_of};
 
-use crate::table::{Found, Row, Task, find, has_answer, option_fits};
+use crate::table::{Row, Task, find, has_answer, option_fits};
 use frame::check_sum::is_right;
 use frame::number::byte_at;
 use frame::uid::{mask_at, uid_at};
@@ -16,7 +16,7 @@ pub enum Target {
     One,
 }
 
-// The family asked for: any, or an AFI byte.
+// The family asked for: any, or an AFI byte. No Option: without an AFI a reader asks for every family, and None would read as for none.
 #[derive(Clone, Copy)]
 pub enum Family {
     Any,
@@ -57,8 +57,7 @@ pub struct Request {
 fn bare_call(call: Call) -> Request
     ensures { result ≡ bare call }
 {
-    let uid = [0u8; 8];
-    Request { uid, call }
+    Request { uid: [0; 8], call }
 }
 
 // A label frame that no label acts on.
@@ -72,10 +71,7 @@ fn nobody() -> Request
 pub fn most_bits(sixteen: bool) -> u8
     ensures { (result ≡ most sixteen) × (result ≤ 64) }
 {
-    if sixteen {
-        return 60;
-    }
-    64
+    if sixteen { 60 } else { 64 }
 }
 
 // An Inventory whose mask length stands at a place.
@@ -120,32 +116,25 @@ fn inventory_frame(f: &[u8]) -> Request
 pub fn is_one(to: Target) -> bool
     ensures { result ≡ is_one to }
 {
-    match to {
-        Target::Everyone => false,
-        Target::Selected => false,
-        Target::One => true,
-    }
+    matches!(to, Target::One)
 }
 
 // Whether a row's task can be asked of a target: some take one UID only.
 pub fn target_fits(row: Row, to: Target) -> bool
     ensures { result ≡ target_fits row to }
 {
-    if row.one {
-        return is_one(to);
-    }
-    true
+    !row.one || is_one(to)
 }
 
 // An error, of a task that has an answer.
 fn fault(to: Target, row: Row, code: u8) -> Call
     ensures { result ≡ faulty to row code }
 {
-    let success = row.success;
-    if has_answer(success) {
-        return Call::Fault(to, code);
+    if has_answer(row.success) {
+        Call::Fault(to, code)
+    } else {
+        Call::Nobody
     }
-    Call::Nobody
 }
 
 // What a frame with parameters ps asks, by its code's row.
@@ -173,17 +162,17 @@ fn row_call(to: Target, option: bool, ps: &[u8], row: Row) -> Call
 }
 
 // What a frame with code c and parameters ps asks.
+#[tactic(auto, unfolding(crate::specs::Label::call, crate::specs::Label::checked))]
 fn call_of(to: Target, c: u8, option: bool, ps: &[u8]) -> Call
     ensures { result ≡ call to c option ps.now }
 {
     if c == 1 {
         return Call::Nobody;
     }
-    let found = find(c);
-    let Found::Known(row) = found else {
-        return Call::Fault(to, 1);
-    };
-    row_call(to, option, ps, row)
+    match find(c) {
+        Some(row) => row_call(to, option, ps, row),
+        None => Call::Fault(to, 1),
+    }
 }
 
 // A frame with Address set.
@@ -250,23 +239,18 @@ fn right_frame(f: &[u8], flags: u8) -> Request
     open_frame(f, Target::Everyone, option)
 }
 
-// What event `number` with frame f asks.
+// What event `number` with frame f asks. A number here and above, and no enum: any byte may be given, and one that names no event is told as such.
+#[tactic(auto, unfolding(crate::specs::Label::heard))]
 pub fn hear(number: u8, f: &[u8]) -> Request
     ensures { result ≡ heard number f.now }
 {
-    if number == 1 {
-        return bare_call(Call::Off);
+    match number {
+        1 => bare_call(Call::Off),
+        2 => bare_call(Call::On),
+        3 => decode_frame(f),
+        4 => bare_call(Call::EndOfFrame),
+        _ => bare_call(Call::Ignored),
     }
-    if number == 2 {
-        return bare_call(Call::On);
-    }
-    if number == 3 {
-        return decode_frame(f);
-    }
-    if number == 4 {
-        return bare_call(Call::EndOfFrame);
-    }
-    bare_call(Call::Ignored)
 }
 
 // The bytes to be written that a frame holds, where it writes a block: behind the block number, up to the check sum.

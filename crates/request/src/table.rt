@@ -45,12 +45,6 @@ pub struct Row {
     pub success: Success,
 }
 
-#[derive(Clone, Copy)]
-pub enum Found {
-    Known(Row),
-    Missing,
-}
-
 const QUIET: Row = Row {
     task: Task::Quiet,
     code: 0x02,
@@ -198,6 +192,7 @@ const TABLE: [Row; 13] = [
 ];
 
 // The row of a task.
+#[tactic(auto, unfolding(crate::specs::Table::row_of))]
 pub fn row_of(task: Task) -> Row
     ensures { result ≡ row_of task }
 {
@@ -219,41 +214,22 @@ pub fn row_of(task: Task) -> Row
 }
 
 // The row of a command's code.
-pub fn find(code: u8) -> Found
+pub fn find(code: u8) -> Option<Row>
     ensures { result ≡ lookup code table }
 {
-    let rows = TABLE;
-    let mut i = 0;
-    while i < 13 {
-        let row = rows[i];
-        if row.code == code {
-            return Found::Known(row);
-        }
-        i += 1;
-    }
-    Found::Missing
+    TABLE.iter().copied().find(|row| row.code == code)
 }
 
 // Whether a success is said.
 pub fn has_answer(success: Success) -> bool
     ensures { result ≡ has_answer success }
 {
-    match success {
-        Success::Never => false,
-        Success::Done => true,
-        Success::Block => true,
-        Success::Info => true,
-        Success::Blocks => true,
-        Success::Locks => true,
-    }
+    !matches!(success, Success::Never)
 }
 
 // Whether a row allows the Option that a frame has.
 pub fn option_fits(row: Row, option: bool) -> bool
     ensures { result ≡ option_fits row option }
 {
-    if option {
-        return row.option;
-    }
-    true
+    !option || row.option
 }

@@ -39,35 +39,13 @@ pub enum WhyChip {
 fn is_nobody(call: Call) -> bool
     ensures { result ≡ is_nobody call }
 {
-    match call {
-        Call::Ignored => false,
-        Call::Off => false,
-        Call::On => false,
-        Call::EndOfFrame => false,
-        Call::Nobody => true,
-        Call::Inventory(_, _, _, _) => false,
-        Call::Fault(_, _) => false,
-        Call::Do(_, _, _, _) => false,
-    }
+    matches!(call, Call::Nobody)
 }
 
 fn is_ignored(order: Order) -> bool
     ensures { result ≡ is_ignored order }
 {
-    match order {
-        Order::Ignored => true,
-        Order::Off => false,
-        Order::On => false,
-        Order::Initiate => false,
-        Order::Pcall => false,
-        Order::Marker(_) => false,
-        Order::Select(_) => false,
-        Order::Completion => false,
-        Order::Reset => false,
-        Order::Read(_) => false,
-        Order::Uid => false,
-        Order::Write(_, _) => false,
-    }
+    matches!(order, Order::Ignored)
 }
 
 // An Inventory whose mask length stands at a place.

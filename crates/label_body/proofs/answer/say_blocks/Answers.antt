@@ -1,4 +1,3 @@
-use mathlib.Core.Path.{◌∙◌}
 use mathlib.Core.List.{List, ◌∷◌}
 use Prim.Native.Nat.{ℕ, ◌+◌, ◌≤◌, ◌<◌}
 use mir.Val.{Fits}
@@ -47,10 +46,6 @@ pub returns : goal.returns
 unfolding blocks_bytes
 returns c = laying_done c.args.out.now c.loop-i.invariant (omega (arith, c.loop-i-test.false)) (room (goal.at.returns c).Start) c.seal.ensures
 
-pub overflow_add-count : goal.overflow_add-count
-overflow_add-count c =
-    omega arith
-
 pub bounds-out-0 : goal.bounds-out-0
 bounds-out-0 c =
     omega (arith, frame_some (f (goal.at.bounds-out-0 c).Start) _ (room (goal.at.bounds-out-0 c).Start))
@@ -58,23 +53,3 @@ bounds-out-0 c =
 pub loop-i-init : goal.loop-i-init
 loop-i-init c =
     laying_none _ _ _
-
-pub overflow_add-first : goal.overflow_add-first
-overflow_add-first c =
-    omega (arith, there (goal.at.overflow_add-first c).In-loop-i)
-
-pub overflow_cast-first-in-loop-i : goal.overflow_cast-first-in-loop-i
-overflow_cast-first-in-loop-i c =
-    byte_fits _ (omega (arith, there (goal.at.overflow_cast-first-in-loop-i c).In-loop-i, c.shared_slice_known-1.given 11))
-
-pub overflow_add-i : goal.overflow_add-i
-overflow_add-i c =
-    omega arith
-
-pub loop-i-smaller : goal.loop-i-smaller
-loop-i-smaller c =
-    omega (arith, c.loop-i-test.true)
-
-pub shape_of-out : goal.shape_of-out
-shape_of-out c =
-    c.seal.auto.out ∙ laying_same c.loop-i.invariant ∙ simp length-set

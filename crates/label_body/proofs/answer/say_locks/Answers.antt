@@ -1,92 +1,53 @@
-use mathlib.Core.Path.{◌≡◌, ap, ◌∙◌}
-use mathlib.Core.List.{List, [], ◌∷◌}
-use Prim.Native.Nat.{ℕ, ◌+◌, ◌≤◌, ◌<◌}
-use mir.Val.{Fits}
-use mir.Syntax.{w8}
+-- 00 is laid, and the frame of it and the locks over it: they stand side by side in the body.
+-- Assumes nothing.
+use mathlib.Core.Path.{◌≡◌, refl}
+use mathlib.Core.List.{[], ◌∷◌}
+use Prim.Native.Nat.{◌+◌, ◌≤◌}
 use native.Mathlib.Omega.{arith}
-use lib.ListN.{length, get_or, length-set}
+use lib.ListN.{length, length-set}
 use Rattle.frame.specs.Choose.{gather}
-use Rattle.frame.specs.CheckSum.{framed}
-use Rattle.label_body.specs.Locks.{lock_on}
+use Rattle.frame.specs.Number.{part}
+use Rattle.frame.proofs.CheckSumFrames.{length_framed}
+use Rattle.frame.proofs.Puts.{laid_part}
+use Rattle.frame.proofs.Stores.{length_part}
+use Rattle.label_body.specs.Locks.{lock_room, lock_on}
 use Rattle.label_body.specs.Answer.{locks_bytes, answer_frame}
-use Rattle.label_body.proofs.AnswerLaid.{laying_none, laying_same, laying_room, laying_one, laying_done, laying_least, frame_some}
+use Rattle.label_body.proofs.BodyRoom.{locks_fit}
+use Rattle.label_body.proofs.LocksLaws.{locks_part}
 use Rattle.label_body.proofs.answer.say_locks.Goals as goal
-use Rattle.label_body.proofs.answer.say_locks.Goals.{Start, In-loop-i}
+use Rattle.label_body.proofs.answer.say_locks.Goals.{Start}
 
-abbrev f : Start → ℕ → List ℕ
-f s j = lock_on (s.args.n + j) s.args.b.now ∷ []
+-- the locks are there
+there : (c : Start) → 32 + c.args.n + (c.args.more + 1) ≤ length c.args.b.now
+unfolding lock_room
+there c = omega (arith, locks_fit c.args.b.now c.requires.sized.0, c.requires.sized.1)
 
-room : (s : Start) → length (framed (0 ∷ gather (s.args.more + 1) (f s))) ≤ length s.args.out.now
+-- and are what the definition gathers
+same : (c : Start) → gather (c.args.more + 1) (λ i. lock_on (c.args.n + i) c.args.b.now ∷ []) ≡ part (32 + c.args.n) (c.args.more + 1) c.args.b.now
+same c = locks_part c.args.b.now c.args.n (c.args.more + 1) (there c)
+
+room : (c : Start) → c.args.more + 4 ≤ length c.args.out.now
 unfolding answer_frame locks_bytes
-room s = s.requires.b_in_bounds
+room c =
+    let b = c.args.b.now in
+    let k = c.args.more + 1 in
+    omega (arith, rw (same c, length_framed, length_part (32 + c.args.n) k b (there c)) at c.requires.b_in_bounds)
 
-there : (c : In-loop-i) → c.args.n + c.loop-i.i ≤ get_or c.args.b.now 11 0
-there c =
-    omega (arith, c.requires.sized.1, c.loop-i-test.true)
+pub bounds-out-0 : goal.bounds-out-0
+bounds-out-0 c = omega (arith, room (goal.at.bounds-out-0 c).Start)
 
-byte_fits : (v : ℕ) → v < 256 → Fits w8 v
-byte_fits v h = record { fits = h }
-
-pub bounds-out-i : goal.bounds-out-i
-bounds-out-i c =
-    let run = c.loop-i.invariant in
-    omega (arith, laying_room run (omega (arith, c.loop-i-test.true)) (room (goal.at.bounds-out-i c).Start), simp length-set at (laying_same run))
-
-pub loop-i-preserved : goal.loop-i-preserved
-loop-i-preserved c = laying_one c.loop-i.invariant (omega (arith, c.loop-i-test.true)) (ap (λ (k : ℕ). k ∷ []) c.lock_on.ensures) (omega arith)
-
-pub seal-requires : goal.seal-requires
-seal-requires c =
-    let run = c.loop-i.invariant in
-    omega (arith, laying_least run (room (goal.at.seal-requires c).Start), simp length-set at (laying_same run), run.upto, c.loop-i-test.false)
+pub seal_part-requires : goal.seal_part-requires
+seal_part-requires c =
+    let s = (goal.at.seal_part-requires c).Start in
+    (omega (arith, there s, c.lock_place.ensures), simp length-set (omega (arith, room s)))
 
 pub returns : goal.returns
 unfolding answer_frame locks_bytes
 returns c =
-    let run = c.loop-i.invariant in
-    let z : c.loop-i.i ≡ c.args.more + 1 = omega (arith, run.upto, c.loop-i-test.false) in
-    laying_done c.args.out.now run (omega (arith, c.loop-i-test.false)) (room (goal.at.returns c).Start) (rw (← z) at c.seal.ensures)
-
-pub overflow_add-count : goal.overflow_add-count
-overflow_add-count c =
-    omega arith
-
-pub bounds-out-0 : goal.bounds-out-0
-bounds-out-0 c =
-    omega (arith, frame_some (f (goal.at.bounds-out-0 c).Start) _ (room (goal.at.bounds-out-0 c).Start))
-
-pub loop-i-init : goal.loop-i-init
-loop-i-init c =
-    laying_none _ _ _
-
-pub overflow_add-first : goal.overflow_add-first
-overflow_add-first c =
-    omega (arith, there (goal.at.overflow_add-first c).In-loop-i)
-
-pub overflow_cast-first-in-loop-i : goal.overflow_cast-first-in-loop-i
-overflow_cast-first-in-loop-i c =
-    byte_fits _ (omega (arith, there (goal.at.overflow_cast-first-in-loop-i c).In-loop-i, c.shared_slice_known-1.given 11))
-
-pub lock_on-requires : goal.lock_on-requires
-lock_on-requires c =
-    tt
-
-pub overflow_add-out : goal.overflow_add-out
-overflow_add-out c =
-    omega (arith, c.loop-i-test.true)
-
-pub overflow_add-i : goal.overflow_add-i
-overflow_add-i c =
-    omega (arith, c.loop-i-test.true)
-
-pub loop-i-smaller : goal.loop-i-smaller
-loop-i-smaller c =
-    omega (arith, c.loop-i-test.true)
-
-pub overflow_add-count-2 : goal.overflow_add-count-2
-overflow_add-count-2 c =
-    omega arith
-
-pub shape_of-out : goal.shape_of-out
-shape_of-out c =
-    c.seal.auto.out ∙ laying_same c.loop-i.invariant ∙ simp length-set
+    let s = (goal.at.returns c).Start in
+    let b = c.args.b.now in
+    let k = c.args.more + 1 in
+    let p = length_part (32 + c.args.n) k b (there s) in
+    let e = rw c.lock_place.ensures at c.seal_part.ensures in
+    let l = laid_part {xs = 0 ∷ []} {old = c.args.out.now} (part (32 + c.args.n) k b) (record { long = refl; is = refl }) (omega (arith, room s)) p e in
+    rw (same s) (l.long, l.is)

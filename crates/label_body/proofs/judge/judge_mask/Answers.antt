@@ -12,7 +12,7 @@ pub returns-then-high_bits-eq0 : goal.returns-then-high_bits-eq0
 returns-then-high_bits-eq0 c =
     let b = c.args.b.now in
     let none = sym (c.high_bits.ensures ∙ ap (λ (n : ℕ). n / 2 ^ get_or b 16 0) c.eight_at-mask.ensures) ∙ c.if-high_bits-eq0.true in
-    c.good.ensures ∙ sym (mask_keeps b (λ i. (c.shared_slice_known-1.given i).fits) (high_zero _ (get_or b 16 0) none))
+    sym (mask_keeps b (λ i. (c.shared_slice_known-1.given i).fits) (high_zero _ (get_or b 16 0) none))
 
 pub overflow_cast-b : goal.overflow_cast-b
 overflow_cast-b c =

@@ -1,13 +1,9 @@
 -- No byte below j has offended: `mask_fine` keeps it so, and `mask_bad` is the first that does.
 -- Assumes nothing.
 use mathlib.Core.Path.{◌≡◌}
-use Prim.Native.Nat.{◌≤◌, ◌-◌}
 use Rattle.frame.specs.Judge.{first_of, fine}
 use Rattle.label_body.specs.Body.{mask_verdict}
 use Rattle.label_body.proofs.judge.seek_over.Given as goal
 
 abbrev pub invariant-loop-j : goal.invariant-loop-j
-invariant-loop-j l = (l.j ≤ 8) × (first_of l.j (mask_verdict l.b) ≡ fine)
-
-abbrev pub decreases-loop-j : goal.decreases-loop-j
-decreases-loop-j l = 8 - l.j
+invariant-loop-j l = first_of l.j (mask_verdict l.b) ≡ fine

@@ -15,6 +15,6 @@ returns c =
     let r = c.args.rack.now in
     let at = entry_at c.args.i + 2 in
     let n : length (part at 2 r) ≤ 2 = omega (arith, length_part at 2 r (omega (arith, c.requires.1))) in
-    let bs : Bytes r = λ i. omega (arith, c.shared_slice_known-1.given i) in
+    let bs : Bytes r = λ i. (c.type_inv.rack i).fits in
     let e : c.number_at.result ≡ length_at r c.args.i = c.number_at.ensures ∙ rw c.entry_of.ensures in
     (e, omega (arith, e, num_lt 2 (part at 2 r) (bytes_part at 2 r bs) n))

@@ -1,10 +1,6 @@
 -- The walk along the entries. Assumes nothing.
-use Prim.Native.Nat.{◌-◌}
 use Rattle.rack.proofs.PlaceHeld.{Walking}
 use Rattle.rack.proofs.place.holder.Given as goal
 
 abbrev pub invariant-loop-i : goal.invariant-loop-i
 invariant-loop-i l = Walking l.rack l.place l.n l.i l.at
-
-abbrev pub decreases-loop-i : goal.decreases-loop-i
-decreases-loop-i l = l.n - l.i
