@@ -5,3 +5,4 @@ pub mod Hex
 pub mod Named
 pub mod Puts
 pub mod Quote
+pub mod Line

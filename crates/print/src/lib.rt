@@ -1,9 +1,9 @@
-// Text out: laid into a buffer that is lent, and written to standard output; and what went wrong, to standard error.
+// Text out: laid into a line, and written to standard output; and what went wrong, to standard error.
 #![tactic(auto)]
 
 pub mod fail;
-pub mod hex;
-pub mod named;
+mod hex;
+pub mod line;
 pub mod put;
 pub mod quote;
 pub mod say;

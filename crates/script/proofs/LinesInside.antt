@@ -1,8 +1,8 @@
 -- For callers: the frame that a line asks to be played is within the buffer that it was read to. Assumes nothing.
-use Rattle.std.specs.Prelude.{if◌then◌else◌}
+use Rattle.std.specs.Prelude.{if◌then◌else◌, Result, Ok, Err}
 use mathlib.Core.Path.{◌≡◌, refl, sym, subst, ◌∙◌}
 use mathlib.Core.Bool.{Bool, true, false}
-use mathlib.Core.List.{List, [], ◌∷◌}
+use mathlib.Core.List.{List}
 use Prim.Native.Nat.{ℕ, ◌+◌, ◌≤◌}
 use native.Mathlib.Omega.{arith}
 use borrow.Author.Tests.{ltb-false}
@@ -14,37 +14,43 @@ use Rattle.frame.specs.CheckSum.{crc_of}
 use Rattle.frame.proofs.Bools.{if_either, if_both}
 use Rattle.reader.specs.declared.command.Command.{Command}
 use Rattle.reader.specs.Request.{least, refusal_of, encode, at_front, written_of, out_of}
+use Rattle.print.specs.Ascii.{ascii}
 use Rattle.text.proofs.RunsWithin.{run_within}
-use Rattle.verbs.specs.declared.commands.Says.{Says}
-use Rattle.verbs.specs.declared.commands.Says.TheVariants as says
-use Rattle.verbs.specs.declared.data.DataRead.{DataRead}
-use Rattle.verbs.specs.declared.data.DataRead.TheVariants as got
+use Rattle.verbs.specs.declared.commands.Asked.{Asked}
+use Rattle.verbs.specs.declared.trouble.Trouble.{Trouble}
+use Rattle.verbs.specs.declared.trouble.What.TheVariants as what
 use Rattle.verbs.specs.Commands.{line_asked}
 use Rattle.verbs.specs.Data.{data_from}
-use Rattle.verbs.specs.Pieces.{next_is}
-use Rattle.verbs.specs.Tokens.{is_empty, word_from}
+use Rattle.verbs.specs.Pieces.{ended, next_is}
+use Rattle.verbs.specs.Tokens.{word_from}
+use Rattle.verbs.specs.Trouble.{on_ok}
 use Rattle.text.specs.Words.{first_word}
 use Rattle.text.specs.Runs.{hex_of}
 use Rattle.text.specs.declared.words.Keyword.{Keyword}
 use Rattle.text.specs.declared.words.Keyword.TheVariants as w
-use Rattle.text.specs.declared.hex.HexRun.{HexRun}
-use Rattle.text.specs.declared.hex.HexRun.TheVariants.{Good, Bad, Odd, Full}
+use Rattle.text.specs.declared.hex.HexError.{HexError}
+use Rattle.text.specs.declared.hex.HexError.TheVariants.{Bad, Odd, Full}
 use Rattle.script.specs.declared.lines.Action.{Action}
 use Rattle.script.specs.declared.lines.Action.TheVariants as act
-use Rattle.script.specs.Lines.{ended_action, run_action, read_to, frame_action, framed_action, sealed, frame_bytes, framed_bytes, drawn_action}
+use Rattle.script.specs.Lines.{ended_action, run_read, read_to, frame_action, framed_action, sealed, frame_bytes, framed_bytes, drawn_action}
 use Rattle.script.specs.Lines.{Effect, draws_effect, effect_by, effect_of}
-use Rattle.script.specs.Commands.{sent_action, Sent, sent, sent_by, sent_from, asked_by, command_of}
+use Rattle.script.specs.Commands.{Answer, sent_action, Sent, sent, sent_by, sent_from, asked_by, command_of}
 
 -- an action asks for no more bytes than there are
-abbrev Held : ℕ → Action → Type 0
-Held room act.Nothing = Unit
-Held room (act.Play number n) = n ≤ room
-Held room act.Random = Unit
-Held room (act.Wrong trouble) = Unit
+abbrev Held : ℕ → Answer → Type 0
+Held room (Ok act.Nothing) = Unit
+Held room (Ok (act.Play number n)) = n ≤ room
+Held room (Ok act.Random) = Unit
+Held room (Err trouble) = Unit
 
-ended_held : (room : ℕ) (line : List ℕ) (at : ℕ) (action : Action) → Held room action → Held room (ended_action line at action)
+-- what comes of a step is held where it is held for each value that the step may have
+on_held : {A : Type 0} (room : ℕ) (r : Result A Trouble) (next : A → Answer) → ((x : A) → r ≡ Ok x → Held room (next x)) → Held room (on_ok r next)
+on_held room (Ok x) next h = h x refl
+on_held room (Err trouble) next h = tt
+
+ended_held : (room : ℕ) (line : List ℕ) (at : ℕ) (action : Action) → Held room (Ok action) → Held room (ended_action line at action)
 unfolding ended_action
-ended_held room line at action h = if_both (Held room) (is_empty (word_from line at)) h tt
+ended_held room line at action h = on_held room (ended line at what.End) (λ _. Ok action) (λ x e. h)
 
 long : (n : ℕ) (b : List ℕ) → length (sealed n b) ≡ length b
 unfolding sealed
@@ -59,25 +65,19 @@ module _ (number rest : ℕ) (behind bytes : List ℕ) where
   same : length (read_to behind bytes) ≡ length bytes
   same = length-sets bytes 0 (hex_of (length bytes) behind).bytes
 
-  by_run : (whole : Bool) (x : HexRun) → (hex_of (length bytes) behind).run ≡ x
-      → Held (length (frame_bytes whole x (read_to behind bytes))) (run_action (frame_action whole number (length bytes)) rest x)
-  by_run true (Good n) e = let h = run_within (length bytes) behind _ (Good n) refl e in let l = same in omega arith
-  by_run false (Good n) e =
+  by_run : (whole : Bool) (x : Result ℕ HexError) → (hex_of (length bytes) behind).run ≡ x
+      → Held (length (frame_bytes whole x (read_to behind bytes))) (on_ok (run_read rest x) (frame_action whole number (length bytes)))
+  by_run true (Ok n) e = let h = run_within (length bytes) behind _ (Ok n) refl e in let l = same in omega arith
+  by_run false (Ok n) e =
       let b = read_to behind bytes in
       subst (λ (m : ℕ). Held (length (sealed n b)) (frame_action false number m n)) same (sum_held number n b)
-  by_run whole (Bad i) e = tt
-  by_run whole (Odd i) e = tt
-  by_run whole Full e = tt
+  by_run whole (Err (Bad i)) e = tt
+  by_run whole (Err (Odd i)) e = tt
+  by_run whole (Err Full) e = tt
 
   framed_held : (whole : Bool) → Held (length (framed_bytes whole behind bytes)) (framed_action number whole rest behind (length bytes))
   unfolding framed_action framed_bytes
   framed_held whole = by_run whole (hex_of (length bytes) behind).run refl
-
-drawn_held : (rest room : ℕ) (x : HexRun) → Held room (run_action (λ n. act.Nothing) rest x)
-drawn_held rest room (Good n) = tt
-drawn_held rest room (Bad i) = tt
-drawn_held rest room (Odd i) = tt
-drawn_held rest room Full = tt
 
 abbrev EffectHeld : Effect → Type 0
 EffectHeld e = Held (length e.bytes) e.action
@@ -85,8 +85,8 @@ EffectHeld e = Held (length e.bytes) e.action
 draws_held : (line : List ℕ) (rest : ℕ) (draws bytes : List ℕ) → EffectHeld (draws_effect line rest draws bytes)
 unfolding draws_effect drawn_action
 draws_held line rest draws bytes =
-    if_both EffectHeld (next_is line rest (114 ∷ 97 ∷ 110 ∷ 100 ∷ 111 ∷ 109 ∷ [])) (ended_held _ line (word_from line rest).to act.Random tt)
-    (drawn_held rest _ (hex_of (length bytes) (drop rest line)).run)
+    if_both EffectHeld (next_is line rest (ascii "random")) (ended_held _ line (word_from line rest).to act.Random tt)
+    (on_held _ (run_read rest (hex_of (length bytes) (drop rest line)).run) (λ _. Ok act.Nothing) (λ x e. tt))
 
 -- a command's frame is at the front of the buffer
 abbrev SentHeld : Sent → Type 0
@@ -109,19 +109,19 @@ module _ (c : Command) (uid d bytes : List ℕ) where
       by true = let l = length-append (encode c uid d) (drop (length (encode c uid d)) bytes) in omega arith
       by false = refused_held (length bytes) (refusal_of c (length d) (length bytes))
 
-by_data : (r : DataRead) (c : Command) (uid d bytes : List ℕ) → SentHeld (sent_by r c uid d bytes)
+by_data : (r : Result ℕ Trouble) (c : Command) (uid d bytes : List ℕ) → SentHeld (sent_by r c uid d bytes)
 unfolding sent_by
-by_data (got.Got n) c uid d bytes = sent_held c uid d bytes
-by_data (got.Wrong trouble) c uid d bytes = tt
+by_data (Ok n) c uid d bytes = sent_held c uid d bytes
+by_data (Err trouble) c uid d bytes = tt
 
-asked_held : (x : Says) (uid line : List ℕ) (at : ℕ) (bytes : List ℕ) → SentHeld (asked_by x uid line at bytes)
+asked_held : (x : Result Asked Trouble) (line bytes : List ℕ) → SentHeld (asked_by x line bytes)
 unfolding asked_by sent_from
-asked_held (says.Ask c) uid line at bytes = by_data (data_from least line at).read c uid (data_from least line at).bytes bytes
-asked_held (says.Wrong trouble) uid line at bytes = tt
+asked_held (Ok a) line bytes = by_data (data_from least line a.at).read a.command a.uid (data_from least line a.at).bytes bytes
+asked_held (Err trouble) line bytes = tt
 
 command_held : (line bytes : List ℕ) → SentHeld (command_of line bytes)
 unfolding command_of
-command_held line bytes = let a = line_asked line in asked_held a.says a.uid line a.at bytes
+command_held line bytes = asked_held (line_asked line) line bytes
 
 effect_held : (w : Keyword) (line : List ℕ) (rest : ℕ) (behind draws bytes : List ℕ) → EffectHeld (effect_by w line rest behind draws bytes)
 effect_held w.Empty line rest behind draws bytes = tt
@@ -136,8 +136,8 @@ effect_held w.ChipSeal line rest behind draws bytes = framed_held 5 rest behind 
 effect_held w.Draws line rest behind draws bytes = draws_held line rest draws bytes
 effect_held w.Unknown line rest behind draws bytes = command_held line bytes
 
-pub frame_inside : (line draws bytes bytes₁ : List ℕ) (r : Action) (number n : ℕ) → r ≡ (effect_of line draws bytes).action
-    → bytes₁ ≡ (effect_of line draws bytes).bytes → r ≡ act.Play number n → n ≤ length bytes₁
+pub frame_inside : (line draws bytes bytes₁ : List ℕ) (r : Answer) (number n : ℕ) → r ≡ (effect_of line draws bytes).action
+    → bytes₁ ≡ (effect_of line draws bytes).bytes → r ≡ Ok (act.Play number n) → n ≤ length bytes₁
 unfolding effect_of
 frame_inside line draws bytes bytes₁ r number n e f g =
     let x = first_word line in

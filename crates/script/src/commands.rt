@@ -1,76 +1,66 @@
 // A command that a line asks: the frame that a reader sends for it.
 ghost use Rattle.std.specs.Prelude.{◌≡◌, length};
 ghost use Rattle.reader.specs.Request.{event_for};
-ghost use Rattle.script.specs.Commands.{sent_action, Sends, sent, sent_from, command_of};
+ghost use Rattle.script.specs.Commands.{refused, Sends, sent, sent_from, command_of};
 
 use crate::lines::Action;
+use frame::refusal::Refusal;
 use reader::command::Command;
-use reader::writer::{Written, write_request};
-use verbs::commands::{Says, asked_in};
-use verbs::data::{DataRead, data_from};
+use reader::writer::try_write;
+use verbs::commands::{Asked, asked_in};
+use verbs::tokens::Rest;
 use verbs::trouble::Trouble;
 
 // The event that a command's frame is.
+#[tactic(auto, unfolding(reader::specs::Request::event_for))]
 fn event_of(c: Command) -> u8
     ensures { result ≡ event_for c }
 {
     match c {
-        Command::Inventory(_, _, _, _, _, _) => 3,
-        Command::Label(_, _, _, _) => 3,
+        Command::Inventory(_, _, _, _, _, _) | Command::Label(_, _, _, _) => 3,
         Command::Chip(_, _, _) => 5,
         Command::Other(_, _) => 0,
     }
 }
 
-fn sent_action(c: Command, w: Written) -> Action
-    ensures { result ≡ sent_action c w }
+// What the writer's refusal says of a line: no such request, or no room for one.
+fn refused(why: Refusal) -> Trouble
+    ensures { result ≡ refused why }
 {
-    if w.number == 0 {
-        return Action::Play(event_of(c), w.length);
+    match why {
+        Refusal::Fields => Trouble::NoRequest,
+        _ => Trouble::Full,
     }
-    if w.number == 7 {
-        return Action::Wrong(Trouble::NoRequest);
-    }
-    Action::Wrong(Trouble::Full)
 }
 
-fn send(c: Command, uid: [u8; 8], data: &[u8], bytes: &mut [u8]) -> Action
+fn send(c: Command, uid: [u8; 8], data: &[u8], bytes: &mut [u8]) -> Result<Action, Trouble>
     ensures { Sends (sent c uid «data».now bytes.old) result bytes.new }
 {
-    let w = write_request(c, uid, data, bytes);
-    sent_action(c, w)
+    match try_write(c, uid, data, bytes) {
+        Ok(n) => Ok(Action::Play(event_of(c), n)),
+        Err(why) => Err(refused(why)),
+    }
 }
 
-// The command with the bytes that it sends, which start at a place of the line and go through a buffer.
+// The command with the bytes that it sends, which start at its place of the line and go through a buffer.
 fn send_from(
-    c: Command,
-    uid: [u8; 8],
+    asked: Asked,
     line: &[u8],
-    at: usize,
     data: &mut [u8],
     bytes: &mut [u8],
-) -> Action
-    ensures { Sends (sent_from c uid line.now at (length «data».old) bytes.old) result bytes.new }
+) -> Result<Action, Trouble>
+    ensures { Sends (sent_from asked line.now (length «data».old) bytes.old) result bytes.new }
 {
-    let read = data_from(line, at, data);
-    match read {
-        DataRead::Got(n) => send(c, uid, &data[0..n], bytes),
-        DataRead::Wrong(trouble) => Action::Wrong(trouble),
-    }
+    let behind = Rest { line, at: asked.at };
+    let n = behind.bytes(data)?;
+    send(asked.command, asked.uid, &data[..n], bytes)
 }
 
 // What a line asks whose first word is no event's. A request has at most 64 bytes, and so do its data.
-pub fn commanded(line: &[u8], bytes: &mut [u8]) -> Action
+pub fn commanded(line: &[u8], bytes: &mut [u8]) -> Result<Action, Trouble>
     ensures { Sends (command_of line.now bytes.old) result bytes.new }
 {
-    let asked = asked_in(line);
-    let says = asked.says;
-    let uid = asked.uid;
-    match says {
-        Says::Ask(c) => {
-            let mut data = [0u8; 64];
-            send_from(c, uid, line, asked.at, &mut data, bytes)
-        }
-        Says::Wrong(trouble) => Action::Wrong(trouble),
-    }
+    let asked = asked_in(line)?;
+    let mut data = [0u8; 64];
+    send_from(asked, line, &mut data, bytes)
 }

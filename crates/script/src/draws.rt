@@ -8,20 +8,15 @@ use frame::number::byte_at;
 pub fn set_draws(draws: &mut [u8], bytes: &[u8])
     ensures { draws.new ≡ padded (length draws.old) bytes.now }
 {
-    let mut i = 0;
-    while i < draws.len() {
+    for i in 0..draws.len() {
         draws[i] = byte_at(bytes, i);
-        i += 1;
     }
 }
 
 // How many draws a rack takes: as many as it says it has tags, up to those at hand.
+#[tactic(auto, unfolding(crate::specs::Lines::draws_for))]
 pub fn draws_for(tags: &[u8], most: usize) -> usize
     ensures { result ≡ draws_for (get_or tags.now 1 0) most }
 {
-    let n = byte_at(tags, 1) as usize;
-    if most < n {
-        return most;
-    }
-    n
+    most.min(byte_at(tags, 1) as usize)
 }

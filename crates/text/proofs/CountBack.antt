@@ -13,7 +13,7 @@ use Rattle.print.specs.Decimal.{decimal_to, decimal_text}
 use Rattle.print.specs.Hex.{digit_of}
 use Rattle.text.specs.Words.{lead}
 use Rattle.text.specs.Count.{is_decimal, decimal_in, count_in}
-use Rattle.text.specs.declared.count.CountRead.TheVariants.{Count}
+use Rattle.std.specs.Prelude.{Some}
 
 digit_decimal : (n : ℕ) → n < 10 → lead is_decimal (digit_of n ∷ []) ≡ 1
 unfolding digit_of
@@ -46,7 +46,7 @@ text_short : (n : ℕ) → n < 10 ^ 9 → Short (decimal_text n)
 unfolding decimal_text
 text_short n h = record { some = some_digit n n; few = short_to n 8 n h; digits = all_digits n n (omega arith) }
 
-pub number_back : (n : ℕ) → n < 10 ^ 9 → count_in (decimal_text n) ≡ Count n
+pub number_back : (n : ℕ) → n < 10 ^ 9 → count_in (decimal_text n) ≡ Some n
 unfolding count_in decimal_in
 number_back n h =
     let t = decimal_text n in

@@ -6,14 +6,14 @@ use Prim.Native.Nat.{ℕ, ◌+◌, ◌-◌, ◌*◌, ◌^◌, ◌≤◌, ◌<◌
 use native.Mathlib.Nat.{pow-suc, pow-le-pow_right}
 use native.Mathlib.Numerals.{add-one}
 use native.Mathlib.Omega.{arith}
-use borrow.Author.Tests.{eq-eqb, ne_eqb, le-leb, lt-leb}
+use borrow.Author.Tests.{eq-eqb, ne_eqb, le-leb}
 use lib.ListN.{length, get_or, drop, drop_of_length-le}
 use lib.Seq.{drop-cons}
 use Rattle.text.proofs.WordsLead.{lead_none, lead_stop, lead_go}
 use Rattle.print.specs.Decimal.{decimal_on, decimal_value}
 use Rattle.text.specs.Words.{lead}
 use Rattle.text.specs.Count.{is_decimal, decimal_in}
-use Rattle.text.specs.declared.count.CountRead.TheVariants.{Count, Other}
+use Rattle.std.specs.Prelude.{None, Some}
 
 -- the first i bytes are digits, and say n
 pub record Digits (s : List ℕ) (n i : ℕ) : Type 0 where
@@ -27,7 +27,7 @@ unfolding decimal_value
 digits_start s = record { inside = omega arith; some = omega arith; value = refl; small = omega arith }
 
 module _ (s : List ℕ) (n i : ℕ) (v : Digits s n i) where
-  pub digits_end : length s ≤ i → Count n ≡ decimal_in s
+  pub digits_end : length s ≤ i → Some n ≡ decimal_in s
   unfolding decimal_in
   digits_end h =
       let z = lead_none is_decimal s i (lead is_decimal s) v.some h in
@@ -36,19 +36,13 @@ module _ (s : List ℕ) (n i : ℕ) (v : Digits s n i) where
       sym (rw (eq-eqb (lead is_decimal s) (length s) (omega arith), d) refl)
 
   module _ (h : i < length s) where
-    other : is_decimal (get_or s i 0) ≡ false → Other ≡ decimal_in s
+    pub digits_other : is_decimal (get_or s i 0) ≡ false → None ≡ decimal_in s
     unfolding decimal_in
-    other t =
+    digits_other t =
         let z = lead_stop is_decimal s i (lead is_decimal s) v.some h t in
         sym (rw (ne_eqb (lead is_decimal s) (length s) (λ q. omega arith)) refl)
 
-    pub digits_low : get_or s i 0 < 48 → Other ≡ decimal_in s
-    digits_low k = other (rw (lt-leb 48 (get_or s i 0) k) refl)
-
     module _ (k : 48 ≤ get_or s i 0) where
-      pub digits_high : 57 < get_or s i 0 → Other ≡ decimal_in s
-      digits_high l = other (rw (le-leb 48 (get_or s i 0) k, lt-leb (get_or s i 0) 57 l) refl)
-
       -- of nine at most
       pub digits_room : length s ≤ 9 → n < 10 ^ 8
       digits_room l =

@@ -1,4 +1,4 @@
--- A digit read back is its number, no digit is a gap or an opening's letter, and a digit's value is below 16. Assumes nothing.
+-- A digit read back is its number, and no digit is a gap or an opening's letter. Assumes nothing.
 use Prim.Native.Nat.{ℕ, ◌+◌, ◌-◌, ◌<◌, ◌≤◌}
 use mathlib.Core.Path.{◌≡◌, refl}
 use mathlib.Core.Bool.{false}
@@ -12,16 +12,15 @@ use Rattle.print.specs.Hex.{digit_of}
 use Rattle.text.specs.Hex.{value_of}
 use Rattle.text.specs.Words.{is_blank, lowered}
 use Rattle.text.specs.Runs.{is_gap, opening}
-use Rattle.text.specs.declared.hex.Nibble.{Nibble}
-use Rattle.text.specs.declared.hex.Nibble.TheVariants.{Digit, Other}
+use Rattle.std.specs.Prelude.{Some}
 
-decimal : (n : ℕ) → n < 10 → value_of (digit_of n) ≡ Digit n
+decimal : (n : ℕ) → n < 10 → value_of (digit_of n) ≡ Some n
 unfolding digit_of value_of
 decimal n h =
     let e : 48 + n - 48 ≡ n = omega arith in
     simp (lt-ltb n 10 h, le-ltb (48 + n) 48 (omega arith), lt-ltb (48 + n) 58 (omega arith), e)
 
-letter : (n : ℕ) → n < 16 → 10 ≤ n → value_of (digit_of n) ≡ Digit n
+letter : (n : ℕ) → n < 16 → 10 ≤ n → value_of (digit_of n) ≡ Some n
 unfolding digit_of value_of
 letter n h g =
     let e : 55 + n - 55 ≡ n = omega arith in
@@ -29,7 +28,7 @@ letter n h g =
     let b : ltb (55 + n) 58 ≡ false = le-ltb (55 + n) 58 (omega arith) in
     simp (le-ltb n 10 g, lt-ltb n 16 h, a, b, le-ltb (55 + n) 65 (omega arith), lt-ltb (55 + n) 71 (omega arith), e)
 
-pub value_digit : (n : ℕ) → n < 16 → value_of (digit_of n) ≡ Digit n
+pub value_digit : (n : ℕ) → n < 16 → value_of (digit_of n) ≡ Some n
 value_digit n h = ⊎_elim (decimal n) (letter n h) (below_or_not n 10)
 
 -- where digits stand among the bytes
@@ -60,7 +59,6 @@ digit_solid n =
     (off_or (eqb c 58) (eqb c 45) (not 58 a.other) (not 45 (λ e. omega arith)))
 
 no_letter : (c : ℕ) → c < 71 → lowered c ≡ 120 → ⊥
-unfolding lowered
 no_letter c h =
     let Not : ℕ → Type 0 = λ x. x ≡ 120 → ⊥ in
     if_both Not (ltb c 65) (λ e. omega arith) (if_both Not (ltb c 91) (λ e. omega arith) (λ e. omega arith))
@@ -69,28 +67,3 @@ pub digit_opens_none : (c n : ℕ) (t : List ℕ) → opening (c ∷ digit_of n 
 unfolding opening
 digit_opens_none c n t =
     off_and (eqb c 48) _ (λ q. rw (ne_eqb (lowered (digit_of n)) 120 (no_letter (digit_of n) (digit_among n).low)) refl)
-
--- ---- the values
-
-none : (d : ℕ) → Other ≡ Digit d → d < 16
-none d e = let z : ◌≡◌ {A = ℕ} 0 1 = cc in omega arith
-
-within : (x d : ℕ) → x < 16 → Digit x ≡ Digit d → d < 16
-within x d h e = let z : x ≡ d = cc in omega arith
-
-abbrev Low : ℕ → Nibble → Type 0
-Low d v = v ≡ Digit d → d < 16
-
-value_below : (c d : ℕ) → value_of c ≡ Digit d → d < 16
-unfolding value_of
-value_below c d =
-    if_either (Low d) (ltb c 48) _ _ (λ t. none d) (λ t.
-    if_either (Low d) (ltb c 58) _ _ (λ t. within (c - 48) d (omega (arith, ltb-true))) (λ t.
-    if_either (Low d) (ltb c 65) _ _ (λ t. none d) (λ t.
-    if_either (Low d) (ltb c 71) _ _ (λ t. within (c - 55) d (omega (arith, ltb-true))) (λ t.
-    if_either (Low d) (ltb c 97) _ _ (λ t. none d) (λ t.
-    if_either (Low d) (ltb c 103) _ _ (λ t. within (c - 87) d (omega (arith, ltb-true))) (λ t. none d))))))
-
--- as the code has it: an answer that is the value, and that is a digit
-pub answered_below : (r : Nibble) (c d : ℕ) → r ≡ value_of c → r ≡ Digit d → d < 16
-answered_below r c d e f = value_below c d (cc)

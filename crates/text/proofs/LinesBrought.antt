@@ -1,6 +1,6 @@
 -- Reads behind the bytes of a buffer, as `fill` goes over them: none of those behind the first n is a newline yet. Assumes nothing.
 use mathlib.Core.Path.{◌≡◌, refl, ap, sym, ◌∙◌}
-use mathlib.Core.Bool.{Bool}
+use mathlib.Core.Bool.{true, false}
 use mathlib.Core.List.{List, ◌++◌}
 use Prim.Native.Nat.{ℕ, ◌+◌, ◌-◌, ◌≤◌, ◌<◌}
 use native.Mathlib.Nat.{add-zero}
@@ -10,9 +10,9 @@ use lib.ListN.{length, take, drop, length-drop, take-append-drop}
 use lib.Seq.{length-take-le, take-take, drop-append-le, drop-length}
 use Rattle.text.proofs.WordsLead.{lead_append}
 use Rattle.text.specs.Words.{lead}
-use Rattle.text.specs.Lines.{holds, ended_at, no_line, in_line, newline_in, line_at, stopped_at, Passed, Ended, Behind, Brought, Whole, Last, TooLong}
-use Rattle.text.specs.declared.lines.Source.{Source}
-use Rattle.text.specs.declared.lines.Reached.TheVariants.{Long}
+use Rattle.text.specs.Lines.{no_line, in_line, newline_in, line_at, last_line, stopped_at, Passed, Behind, Brought, Whole, Last, TooLong}
+use Rattle.text.specs.declared.lines.Source.TheVariants.{Holding, Ended}
+use Rattle.text.specs.declared.lines.Reached.TheVariants.{Long, End}
 use Rattle.text.specs.declared.lines.Got.{Got}
 
 -- no newline up to `end`: the first up to `to` is the first from there on
@@ -75,32 +75,40 @@ read_within buf ys end h e g =
     let m : length (mid_of end (length buf - end) buf) ≡ length buf - end = mid_len end (length buf) buf (omega arith) in
     omega arith
 
-module _ {n end : ℕ} {old buf : List ℕ} (r : Reading n old buf end) {at to : ℕ} (w : to ≤ length buf) (o : end ≤ to) (e : at ≡ newline_in buf end to) where
-  behind : at ≡ newline_in buf n to
-  behind = e ∙ sym (newline_behind buf n end to r.order o w r.none)
+module _ {n end : ℕ} {old buf : List ℕ} (r : Reading n old buf end) {to : ℕ} (w : to ≤ length buf) (o : end ≤ to) where
+  behind : newline_in buf end to ≡ newline_in buf n to
+  behind = sym (newline_behind buf n end to r.order o w r.none)
 
   -- no newline came
-  pub reading_on : to ≤ at → at ≤ to → Reading n old buf to
-  reading_on h g = let b = behind in let q = r.order in record { long = r.long; order = omega arith; within = w; kept = r.kept; none = omega arith }
+  pub reading_on : newline_in buf end to ≡ to → Reading n old buf to
+  reading_on e = let b = behind in let q = r.order in record { long = r.long; order = omega arith; within = w; kept = r.kept; none = omega arith }
 
   -- one came
-  pub brought_line : {x : Source} {g : Got} → at < to → x ≡ holds (at + 1) to → g ≡ line_at buf 0 at x → Brought n old buf g
-  brought_line h f k =
-      let b = behind in
-      Whole to w r.kept (omega arith) (k ∙ ap (line_at buf 0 at) f ∙ ap (λ (i : ℕ). line_at buf 0 i (holds (i + 1) to)) b)
+  pub brought_line : {at : ℕ} {g : Got} → (newline_in buf end to ≡ at) × (at < to) → g ≡ line_at buf 0 at (Holding (at + 1) to) → Brought n old buf g
+  brought_line e k =
+      let b = sym e.0 ∙ behind in
+      let l = e.1 in
+      Whole to w r.kept (omega arith) (k ∙ ap (λ (i : ℕ). line_at buf 0 i (Holding (i + 1) to)) b)
 
 -- no more comes
-pub brought_last : {n end : ℕ} {old buf : List ℕ} {g : Got} (fine : Bool) → Reading n old buf end → g ≡ stopped_at end fine → Brought n old buf g
-brought_last {end = end} fine r e = Last end fine r.within r.kept r.none e
+module _ {n end : ℕ} {old buf : List ℕ} (r : Reading n old buf end) {g : Got} where
+  pub brought_last : g ≡ last_line end → Brought n old buf g
+  unfolding stopped_at
+  brought_last e = Last end true r.within r.kept r.none e
+
+  -- a read failed
+  pub brought_failed : g ≡ no_line End Ended → Brought n old buf g
+  unfolding stopped_at
+  brought_failed e = Last end false r.within r.kept r.none e
 
 -- ---- the rest of a line that was too long, as `pass` goes over it
 
-module _ {new : List ℕ} {x : Source} {g : Got} (f : g ≡ no_line Long x) where
-  pub pass_ended : x ≡ ended_at → Passed new g
-  pass_ended e = Ended (f ∙ ap (no_line Long) e)
-
-  pub pass_behind : {at n : ℕ} → n ≤ length new → at ≡ newline_in new 0 n → at < n → x ≡ holds (at + 1) n → Passed new g
-  pass_behind {at} {n} h e l k = Behind n h (omega arith) (f ∙ ap (no_line Long) (k ∙ ap (λ (i : ℕ). holds (i + 1) n) e))
+pub pass_behind : {new : List ℕ} {g : Got} {at n : ℕ} → n ≤ length new → (newline_in new 0 n ≡ at) × (at < n)
+    → g ≡ no_line Long (Holding (at + 1) n) → Passed new g
+pass_behind {n = n} h e f =
+    let l = e.1 in
+    let q = sym e.0 in
+    Behind n h (omega arith) (f ∙ ap (λ (i : ℕ). no_line Long (Holding (i + 1) n)) q)
 
 pub brought_long : {n : ℕ} {old new : List ℕ} {g : Got} → Passed new g → Brought n old new g
 brought_long p = TooLong p

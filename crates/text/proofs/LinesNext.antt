@@ -1,14 +1,18 @@
 -- The ways out of `next` and `at_hand`: what their tests told, and what their callees answered. Assumes nothing.
-use mathlib.Core.Path.{◌≡◌, refl, ap, sym, ◌∙◌}
-use mathlib.Core.Bool.{true, false}
+use mathlib.Core.Path.{◌≡◌, refl, sym, ◌∙◌}
+use mathlib.Core.Bool.{Bool, true}
 use mathlib.Core.List.{List}
 use Prim.Native.Nat.{ℕ, ◌+◌, ◌-◌, ◌≤◌, ◌<◌}
 use borrow.Author.Tests.{lt-ltb, le-ltb}
-use lib.Dec.{ltb}
+use lib.Dec.{eqb}
+use native.Mathlib.Omega.{arith}
+use Rattle.std.specs.Prelude.{Option, None, Some, is_some, position}
+use Rattle.frame.specs.Number.{part}
+use Rattle.text.proofs.LinesPlaces.{newline_found, newline_none}
 use lib.ListN.{length}
-use Rattle.frame.proofs.Bools.{if_either}
-use Rattle.text.specs.Lines.{holds, ended_at, no_line, newline_in, line_at, to_front, Next, Found, next_of, is_found, Brought, Follows}
+use Rattle.text.specs.Lines.{no_line, newline_in, line_at, to_front, Found, next_of, is_found, Brought, Follows}
 use Rattle.text.specs.declared.lines.Source.{Source}
+use Rattle.text.specs.declared.lines.Source.TheVariants.{Holding, Ended}
 use Rattle.text.specs.declared.lines.Reached.TheVariants.{End}
 use Rattle.text.specs.declared.lines.Got.{Got}
 
@@ -16,58 +20,60 @@ module _ (s : Source) (buf : List ℕ) where
   found : {g y : Got} → next_of s buf ≡ Found y → g ≡ y → Follows (next_of s buf) buf buf g
   found e f = rw e (f, refl)
 
-  pub next_done : {g : Got} → s.done ≡ true → g ≡ no_line End s → Follows (next_of s buf) buf buf g
+  pub next_done : {g : Got} → s ≡ Ended → g ≡ no_line End Ended → Follows (next_of s buf) buf buf g
   unfolding next_of
   next_done h f = found (rw h refl) f
 
-  module _ (h : s.done ≡ false) where
-    none : {x : Source} {g : Got} → x ≡ ended_at → g ≡ no_line End x → g ≡ no_line End ended_at
-    none e f = f ∙ ap (no_line End) e
-
-    pub next_short : {x : Source} {g : Got} → length buf < s.end → x ≡ ended_at → g ≡ no_line End x → Follows (next_of s buf) buf buf g
+  module _ {start end : ℕ} (h : s ≡ Holding start end) where
+    pub next_short : {g : Got} → length buf < end → g ≡ no_line End Ended → Follows (next_of s buf) buf buf g
     unfolding next_of
-    next_short l e f = found (rw (h, lt-ltb (length buf) s.end l) refl) (none e f)
+    next_short l f = found (rw (h, lt-ltb (length buf) end l) refl) f
 
-    module _ (l : s.end ≤ length buf) where
-      pub next_crossed : {x : Source} {g : Got} → s.end < s.start → x ≡ ended_at → g ≡ no_line End x → Follows (next_of s buf) buf buf g
+    module _ (l : end ≤ length buf) where
+      pub next_crossed : {g : Got} → end < start → g ≡ no_line End Ended → Follows (next_of s buf) buf buf g
       unfolding next_of
-      next_crossed k e f = found (rw (h, le-ltb (length buf) s.end l, lt-ltb s.end s.start k) refl) (none e f)
+      next_crossed k f = found (rw (h, le-ltb (length buf) end l, lt-ltb end start k) refl) f
 
-      module _ (k : s.start ≤ s.end) {at : ℕ} (w : at ≡ newline_in buf s.start s.end) where
-        pub next_line : {x : Source} {g : Got} → at < s.end → x ≡ holds (at + 1) s.end → g ≡ line_at buf s.start at x
+      module _ (k : start ≤ end) where
+        pub next_line : {at : ℕ} {g : Got} → (newline_in buf start end ≡ at) × (at < end) → g ≡ line_at buf start at (Holding (at + 1) end)
             → Follows (next_of s buf) buf buf g
         unfolding next_of
-        next_line o e f =
-            found
-            (rw (h, le-ltb (length buf) s.end l, le-ltb s.end s.start k, ← w, lt-ltb at s.end o) refl)
-            (f ∙ ap (line_at buf s.start at) e)
+        next_line {at} w f = found (rw (h, le-ltb (length buf) end l, le-ltb end start k, w.0, lt-ltb at end w.1) refl) f
 
-        pub next_more : {n : ℕ} {front new : List ℕ} {g : Got} → s.end ≤ at → n ≡ s.end - s.start → front ≡ to_front buf s.start s.end
-            → Brought n front new g → Follows (next_of s buf) buf new g
+        pub next_more : {n : ℕ} {front new : List ℕ} {g : Got} → newline_in buf start end ≡ end → n ≡ end - start
+            → front ≡ to_front buf start end → Brought n front new g → Follows (next_of s buf) buf new g
         unfolding next_of
-        next_more o e f b =
-            rw (h, le-ltb (length buf) s.end l, le-ltb s.end s.start k, ← w, le-ltb at s.end o, ← f, ← e) b
+        next_more w e f b =
+            let o : end ≤ end = omega arith in
+            rw (h, le-ltb (length buf) end l, le-ltb end start k, w, le-ltb end end o, ← f, ← e) b
 
 -- ---- whether a read is needed
 
 module _ (s : Source) (buf : List ℕ) where
-  pub hand_done : s.done ≡ true → true ≡ is_found (next_of s buf)
+  pub hand_done : s ≡ Ended → true ≡ is_found (next_of s buf)
   unfolding next_of
   hand_done h = sym (rw h refl)
 
-  module _ (h : s.done ≡ false) where
-    pub hand_short : length buf < s.end → true ≡ is_found (next_of s buf)
+  module _ {start end : ℕ} (h : s ≡ Holding start end) where
+    pub hand_short : length buf < end → true ≡ is_found (next_of s buf)
     unfolding next_of
-    hand_short l = sym (rw (h, lt-ltb (length buf) s.end l) refl)
+    hand_short l = sym (rw (h, lt-ltb (length buf) end l) refl)
 
-    module _ (l : s.end ≤ length buf) where
-      pub hand_crossed : s.end < s.start → true ≡ is_found (next_of s buf)
+    module _ (l : end ≤ length buf) where
+      pub hand_crossed : end < start → true ≡ is_found (next_of s buf)
       unfolding next_of
-      hand_crossed k = sym (rw (h, le-ltb (length buf) s.end l, lt-ltb s.end s.start k) refl)
+      hand_crossed k = sym (rw (h, le-ltb (length buf) end l, lt-ltb end start k) refl)
 
-      pub hand_told : s.start ≤ s.end → {at : ℕ} → at ≡ newline_in buf s.start s.end → ltb at s.end ≡ is_found (next_of s buf)
-      unfolding next_of
-      hand_told k {at} w =
-          rw
-          (h, le-ltb (length buf) s.end l, le-ltb s.end s.start k, ← w)
-          (if_either (λ (x : Next). ltb at s.end ≡ is_found x) (ltb at s.end) _ _ (λ q. q) (λ q. q))
+      module _ (k : start ≤ end) (r : Option ℕ) (e : r ≡ position (λ c. eqb c 10) (part start (end - start) buf)) where
+        pub hand_told : (t : Bool) → t ≡ is_some r → t ≡ is_found (next_of s buf)
+        unfolding next_of
+        hand_told t f = f ∙ by r refl
+          where
+            by : (x : Option ℕ) → r ≡ x → is_some r ≡ is_found (next_of s buf)
+            by None q =
+                let w = newline_none buf start end k l r e q in
+                let o : end ≤ end = omega arith in
+                rw (q, h, le-ltb (length buf) end l, le-ltb end start k, w, le-ltb end end o) refl
+            by (Some i) q =
+                let w = newline_found buf start end k l r e i q in
+                rw (q, h, le-ltb (length buf) end l, le-ltb end start k, w.0, lt-ltb (start + i) end w.1) refl

@@ -13,7 +13,8 @@ use Rattle.frame.proofs.Bools.{and_both, off_and, or_off, off_or, if_either, bel
 use Rattle.frame.proofs.Lists.{drop_head}
 use Rattle.text.specs.Hex.{value_of}
 use Rattle.text.specs.Words.{is_blank, lowered}
-use Rattle.text.specs.Runs.{is_gap, is_digit, opening}
+use Rattle.std.specs.Prelude.{is_some}
+use Rattle.text.specs.Runs.{is_gap, opening}
 use Rattle.text.specs.RunsPlaces.{passed_at}
 
 -- ---- the ways out of `is_gap`, where t tells whether c is a blank
@@ -47,7 +48,7 @@ all_on a b c d e = let x = and_both b (c && d) (and_both a (b && (c && d)) e).1 
 
 module _ (s : List ℕ) (at : ℕ) where
   abbrev digit_at : ℕ → Bool
-  digit_at i = is_digit (value_of (get_or s i 0))
+  digit_at i = is_some (value_of (get_or s i 0))
 
   by_places : opening (drop at s) ≡ (eqb (get_or s at 0) 48 && (eqb (lowered (get_or s (at + 1) 0)) 120 && (digit_at (at + 2) && digit_at (at + 3))))
   unfolding opening
@@ -59,7 +60,7 @@ module _ (s : List ℕ) (at : ℕ) where
       let z : get_or s (at + 3) 0 ≡ 0 = get_or-eq_default s 0 {n = at + 3} (omega arith) in
       sym
       (by_places
-      ∙ fourth_off (eqb (get_or s at 0) 48) (eqb (lowered (get_or s (at + 1) 0)) 120) (digit_at (at + 2)) _ (ap (λ (c : ℕ). is_digit (value_of c)) z))
+      ∙ fourth_off (eqb (get_or s at 0) 48) (eqb (lowered (get_or s (at + 1) 0)) 120) (digit_at (at + 2)) _ (ap (λ (c : ℕ). is_some (value_of c)) z))
 
   pub opens_other : (get_or s at 0 ≡ 48 → ⊥) → false ≡ opening (drop at s)
   opens_other h = sym (by_places ∙ rw (ne_eqb (get_or s at 0) 48 h) refl)
@@ -69,8 +70,8 @@ module _ (s : List ℕ) (at : ℕ) where
     opens_letter k = sym (by_places ∙ rw (eq-eqb (get_or s at 0) 48 h, ← e, ne_eqb x 120 k) refl)
 
     module _ (k : x ≡ 120) (d : Bool) (f : d ≡ digit_at (at + 2)) where
-      pub opens_alone : d ≡ false → false ≡ opening (drop at s)
-      opens_alone g = sym (by_places ∙ rw (eq-eqb (get_or s at 0) 48 h, ← e, eq-eqb x 120 k, ← f, g) refl)
+      pub opens_alone : d ≡ false → d ≡ opening (drop at s)
+      opens_alone g = g ∙ sym (by_places ∙ rw (eq-eqb (get_or s at 0) 48 h, ← e, eq-eqb x 120 k, ← f, g) refl)
 
       pub opens_pair : d ≡ true → (y : Bool) → y ≡ digit_at (at + 3) → y ≡ opening (drop at s)
       opens_pair g y q = q ∙ sym (by_places ∙ rw (eq-eqb (get_or s at 0) 48 h, ← e, eq-eqb x 120 k, ← f, g) refl)
@@ -78,22 +79,22 @@ module _ (s : List ℕ) (at : ℕ) where
 -- ---- what an opening tells
 
 module _ (t : List ℕ) (e : opening t ≡ true) where
-  told : (eqb (lowered (get_or t 1 0)) 120 ≡ true) × (is_digit (value_of (get_or t 3 0)) ≡ true)
+  told : (eqb (lowered (get_or t 1 0)) 120 ≡ true) × (is_some (value_of (get_or t 3 0)) ≡ true)
   unfolding opening
-  told = all_on (eqb (get_or t 0 0) 48) _ (is_digit (value_of (get_or t 2 0))) _ e
+  told = all_on (eqb (get_or t 0 0) 48) _ (is_some (value_of (get_or t 2 0))) _ e
 
   -- all of it is there
   pub opening_long : 4 ≤ length t
   unfolding value_of
   opening_long =
       ⊎_elim
-      (λ (l : length t < 4). absurd (false≢true (ap (λ (c : ℕ). is_digit (value_of c)) (sym (get_or-eq_default t 0 {n = 3} (omega arith))) ∙ told.1)))
+      (λ (l : length t < 4). absurd (false≢true (ap (λ (c : ℕ). is_some (value_of c)) (sym (get_or-eq_default t 0 {n = 3} (omega arith))) ∙ told.1)))
       (λ (l : 4 ≤ length t). l)
       (below_or_not (length t) 4)
 
   -- its letter is no blank
   pub opening_solid : is_blank (get_or t 1 0) ≡ false
-  unfolding is_blank lowered
+  unfolding is_blank
   opening_solid =
       let c = get_or t 1 0 in
       let x = eqb-true (lowered c) 120 told.0 in

@@ -13,12 +13,10 @@ use Rattle.frame.proofs.Bools.{if_either, if_both}
 use Rattle.text.proofs.RunsPassed.{gap_none, opening_long, opening_solid, passed_none}
 use Rattle.text.proofs.RunsPieces.{behind, Whole, byte_whole}
 use Rattle.text.specs.Words.{is_blank}
-use Rattle.text.specs.Runs.{is_gap, opening, piece_of, HexRead, stop, onward, read_hex, hex_of}
+use Rattle.text.specs.Runs.{is_gap, opening, Piece, piece_of, HexRead, stop, onward, read_hex, hex_of}
 use Rattle.text.specs.RunsPlaces.{blank_before, passed_at, piece_at}
-use Rattle.text.specs.declared.hex.HexRun.{HexRun}
-use Rattle.text.specs.declared.hex.HexRun.TheVariants.{Good}
-use Rattle.text.specs.declared.hex.Piece.{Piece}
-use Rattle.text.specs.declared.hex.Piece.TheVariants.{Byte, Stop}
+use Rattle.std.specs.Prelude.{None, Some, Result, Ok, Err}
+use Rattle.text.specs.declared.hex.HexError.{HexError}
 
 -- ---- one byte of text
 
@@ -32,7 +30,7 @@ module _ (room n at : ℕ) (blank : Bool) (c : ℕ) where
     read_opening d t o = rw (e, o) refl
 
     pub read_piece : (t : List ℕ) → opening (c ∷ t) ≡ false
-        → read_hex room n at blank (c ∷ t) ≡ onward (piece_of room n at blank (c ∷ t)) (read_hex room (suc n) (at + 2) false (drop 1 t))
+        → read_hex room n at blank (c ∷ t) ≡ onward n (piece_of room n at blank (c ∷ t)) (read_hex room (suc n) (at + 2) false (drop 1 t))
     read_piece [] o = rw e refl
     read_piece (d ∷ t) o = rw (e, o) refl
 
@@ -99,35 +97,38 @@ module _ (s : List ℕ) (room : ℕ) where
       if_both In (is_gap (get_or s at 0)) (omega arith) (if_either In (opening (drop at s)) _ _ (λ o. let l = there at o in omega arith) (λ o. omega arith))
 
   -- the run ends at the text's end ..
-  pub at_end : (n at : ℕ) → length s ≤ at → rest n at ≡ stop (Good n)
+  pub at_end : (n at : ℕ) → length s ≤ at → rest n at ≡ stop (Ok n)
   at_end n at h = rw (drop_of_length-le s {i = at} h) refl
 
   -- .. or at a piece p that is no byte, or goes on behind a byte
   module _ (n at : ℕ) (p : Piece) (h : at < length s) (e : passed_at s at ≡ 0) (f : p ≡ piece_at s at n room) where
-    at_piece : rest n at ≡ onward p (after (suc n) at)
+    at_piece : rest n at ≡ onward n p (after (suc n) at)
     at_piece =
         let d = drop-cons s at 0 h in
         let q = passed_none s at e in
         let z : suc at + 1 ≡ at + 2 = omega arith in
         ap (read_hex room n at (blank_before s at)) d
         ∙ read_piece room n at (blank_before s at) (get_or s at 0) q.0 (drop (suc at) s) (ap opening (sym d) ∙ q.1)
-        ∙ ap (λ (u : List ℕ). onward (piece_of room n at (blank_before s at) u) (read_hex room (suc n) (at + 2) false (drop 1 (drop (suc at) s)))) (sym d)
-        ∙ ap (λ (u : List ℕ). onward (piece_at s at n room) (read_hex room (suc n) (at + 2) false u)) (drop-drop 1 (suc at) s)
-        ∙ ap (λ (k : ℕ). onward (piece_at s at n room) (read_hex room (suc n) (at + 2) false (drop k s))) z
-        ∙ ap (λ (x : Piece). onward x (after (suc n) at)) (sym f)
+        ∙ ap (λ (u : List ℕ). onward n (piece_of room n at (blank_before s at) u) (read_hex room (suc n) (at + 2) false (drop 1 (drop (suc at) s)))) (sym d)
+        ∙ ap (λ (u : List ℕ). onward n (piece_at s at n room) (read_hex room (suc n) (at + 2) false u)) (drop-drop 1 (suc at) s)
+        ∙ ap (λ (k : ℕ). onward n (piece_at s at n room) (read_hex room (suc n) (at + 2) false (drop k s))) z
+        ∙ ap (λ (x : Piece). onward n x (after (suc n) at)) (sym f)
 
-    pub at_stop : (r : HexRun) → p ≡ Stop r → rest n at ≡ stop r
-    at_stop r g = at_piece ∙ ap (λ (x : Piece). onward x (after (suc n) at)) g
+    pub at_stop : p ≡ Ok None → rest n at ≡ stop (Ok n)
+    at_stop g = at_piece ∙ ap (λ (x : Piece). onward n x (after (suc n) at)) g
 
-    pub at_byte : (b : ℕ) → p ≡ Byte b → rest n at ≡ onward (Byte b) (rest (n + 1) (at + 2))
+    pub at_error : (r : HexError) → p ≡ Err r → rest n at ≡ stop (Err r)
+    at_error r g = at_piece ∙ ap (λ (x : Piece). onward n x (after (suc n) at)) g
+
+    pub at_byte : (b : ℕ) → p ≡ Ok (Some b) → rest n at ≡ onward n (Ok (Some b)) (rest (n + 1) (at + 2))
     at_byte b g =
         let w = byte_whole room n at (blank_before s at) (drop at s) b (sym f ∙ g) in
         let t = gap_none (get_or s (at + 1) 0) (ap is_gap (sym (get_or-drop at s 1 0)) ∙ w.tight) in
         let i : suc n ≡ n + 1 = omega arith in
         at_piece
-        ∙ ap (λ (x : Piece). onward x (after (suc n) at)) g
-        ∙ ap (λ (k : ℕ). onward (Byte b) (after k at)) i
-        ∙ ap (onward (Byte b)) (tight (n + 1) at t)
+        ∙ ap (λ (x : Piece). onward n x (after (suc n) at)) g
+        ∙ ap (λ (k : ℕ). onward n (Ok (Some b)) (after k at)) i
+        ∙ ap (onward n (Ok (Some b))) (tight (n + 1) at t)
 
 -- ---- the loop of `read_bytes`: n bytes are written
 
@@ -151,11 +152,11 @@ reads_start s out =
 
 module _ (s out₀ out : List ℕ) (at n : ℕ) (v : Reads s out₀ out at n) where
   -- where nothing more is read
-  done : (r : HexRun) → rest s (length out₀) n at ≡ stop r → (r ≡ (hex_of (length out₀) s).run) × (out ≡ sets out₀ 0 (hex_of (length out₀) s).bytes)
+  done : (r : Result ℕ HexError) → rest s (length out₀) n at ≡ stop r → (r ≡ (hex_of (length out₀) s).run) × (out ≡ sets out₀ 0 (hex_of (length out₀) s).bytes)
   done r q = (ap (λ (x : HexRead). x.run) (sym q) ∙ v.run, none out _ _ n (ap (λ (x : HexRead). x.bytes) q) v.bytes)
 
-  pub reads_end : length s ≤ at → (Good n ≡ (hex_of (length out₀) s).run) × (out ≡ sets out₀ 0 (hex_of (length out₀) s).bytes)
-  reads_end h = done (Good n) (at_end s (length out₀) n at h)
+  pub reads_end : length s ≤ at → (Ok n ≡ (hex_of (length out₀) s).run) × (out ≡ sets out₀ 0 (hex_of (length out₀) s).bytes)
+  reads_end h = done (Ok n) (at_end s (length out₀) n at h)
 
   module _ (h : at < length s) (k : ℕ) (w : k ≡ passed_at s at) where
     pub passed_inside : at + k ≤ length s
@@ -177,10 +178,13 @@ module _ (s out₀ out : List ℕ) (at n : ℕ) (v : Reads s out₀ out at n) wh
       same_room : p ≡ piece_at s at n (length out₀)
       same_room = e ∙ ap (piece_at s at n) v.same
 
-      pub reads_stop : (r : HexRun) → p ≡ Stop r → (r ≡ (hex_of (length out₀) s).run) × (out ≡ sets out₀ 0 (hex_of (length out₀) s).bytes)
-      reads_stop r g = done r (at_stop s (length out₀) n at p h (sym w ∙ z) same_room r g)
+      pub reads_stop : p ≡ Ok None → (Ok n ≡ (hex_of (length out₀) s).run) × (out ≡ sets out₀ 0 (hex_of (length out₀) s).bytes)
+      reads_stop g = done (Ok n) (at_stop s (length out₀) n at p h (sym w ∙ z) same_room g)
 
-      module _ (b : ℕ) (g : p ≡ Byte b) where
+      pub reads_error : (r : HexError) → p ≡ Err r → (Err r ≡ (hex_of (length out₀) s).run) × (out ≡ sets out₀ 0 (hex_of (length out₀) s).bytes)
+      reads_error r g = done (Err r) (at_error s (length out₀) n at p h (sym w ∙ z) same_room r g)
+
+      module _ (b : ℕ) (g : p ≡ Ok (Some b)) where
         whole : Whole (length out) n (drop at s)
         whole = byte_whole (length out) n at (blank_before s at) (drop at s) b (sym e ∙ g)
 

@@ -11,6 +11,11 @@ use native.Mathlib.Omega.{arith}
 use lib.ListN.{length, get_or, drop, length-drop, drop_of_length-le}
 use lib.Seq.{drop-cons}
 use Rattle.frame.proofs.Bools.{below_or_not, if_both}
+use Rattle.std.specs.Prelude.{None, Some, cond, position, if◌then◌else◌}
+use Rattle.std.specs.List.{position_or_len}
+use borrow.Author.Tests.{ltb-true, ltb-false}
+use lib.Dec.{ltb}
+use mathlib.Core.Bool.{not}
 use Rattle.text.specs.Words.{lead}
 
 module _ (p : ℕ → Bool) where
@@ -36,6 +41,14 @@ module _ (p : ℕ → Bool) where
         let y : lead p (drop (i + 1) s) ≡ lead p (drop (suc i) s) = rw add-one refl in
         omega arith
 
+  pub lead_double : (s : List ℕ) → lead (λ c. not (not (p c))) s ≡ lead p s
+  lead_double [] = refl
+  lead_double (c ∷ s) = by (p c) (lead_double s)
+    where
+      by : (t : Bool) → {m n : ℕ} → m ≡ n → (if not (not t) then suc m else 0) ≡ (if t then suc n else 0)
+      by true e = ap suc e
+      by false e = refl
+
   -- ---- where some pass
 
   go : (c : ℕ) (s : List ℕ) (k : ℕ) (t : Bool) → p c ≡ t → lead p (c ∷ s) ≡ suc k → (p c ≡ true) × (lead p s ≡ k)
@@ -56,3 +69,28 @@ module _ (p : ℕ → Bool) where
   lead_append (c ∷ s) t e =
       let g = go c s (length s) (p c) refl e in
       rw g.0 (ap suc (lead_append s t g.1) ∙ sym (suc-add (length s) (lead p t)))
+
+-- ---- where a text's first byte is that passes a test `stops`, as a search finds it
+
+module _ (stops : ℕ → Bool) where
+  abbrev goes : ℕ → Bool
+  goes c = not (stops c)
+
+  led : (s : List ℕ) → position_or_len stops s ≡ lead goes s
+  led [] = refl
+  led (c ∷ s) = let e : 1 + lead goes s ≡ suc (lead goes s) = omega arith in rw (led s, e) refl
+
+  -- the search's answer, where n is the place
+  found : (s : List ℕ) (n i : ℕ) (t : Bool) → n ≡ lead goes s → ltb n (length s) ≡ t → cond t (Some n) None ≡ Some i → (lead goes s ≡ i) × (i < length s)
+  found s n i true m q p = let k : n ≡ i = cc in let l = ltb-true n (length s) q in (omega arith, omega arith)
+  found s n i false m q p = cc
+
+  missing : (s : List ℕ) (n : ℕ) (t : Bool) → n ≡ lead goes s → ltb n (length s) ≡ t → cond t (Some n) None ≡ None → lead goes s ≡ length s
+  missing s n true m q p = cc
+  missing s n false m q p = let l = ltb-false n (length s) q in let k = lead_within goes s in omega arith
+
+  pub first_found : (s : List ℕ) (i : ℕ) → position stops s ≡ Some i → (lead goes s ≡ i) × (i < length s)
+  first_found s i e = found s (position_or_len stops s) i (ltb (position_or_len stops s) (length s)) (led s) refl e
+
+  pub first_missing : (s : List ℕ) → position stops s ≡ None → lead goes s ≡ length s
+  first_missing s e = missing s (position_or_len stops s) (ltb (position_or_len stops s) (length s)) (led s) refl e

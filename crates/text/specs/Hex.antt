@@ -1,15 +1,13 @@
 -- The values of hex digits. Assumes nothing.
-use Rattle.std.specs.Prelude.{ℕ, ◌-◌, ltb, if◌then◌else◌}
-use Rattle.text.specs.declared.hex.Nibble.{Nibble}
-use Rattle.text.specs.declared.hex.Nibble.TheVariants.{Digit, Other}
+use Rattle.std.specs.Prelude.{Option, None, Some, ℕ, ◌-◌, ltb, if◌then◌else◌}
 
 -- the value of a byte of text as a digit: 0 to 9, A to F, a to f
-unfoldable pub value_of : ℕ → Nibble
+unfoldable pub value_of : ℕ → Option ℕ
 value_of c =
-    if ltb c 48 then Other
-    else if ltb c 58 then Digit (c - 48)
-    else if ltb c 65 then Other
-    else if ltb c 71 then Digit (c - 55)
-    else if ltb c 97 then Other
-    else if ltb c 103 then Digit (c - 87)
-    else Other
+    if ltb c 48 then None
+    else if ltb c 58 then Some (c - 48)
+    else if ltb c 65 then None
+    else if ltb c 71 then Some (c - 55)
+    else if ltb c 97 then None
+    else if ltb c 103 then Some (c - 87)
+    else None

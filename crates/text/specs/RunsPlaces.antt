@@ -1,8 +1,7 @@
 -- Not for the reader of the paper: for the contracts of private functions alone, which see a run of hex by its places. Assumes nothing.
 use Rattle.std.specs.Prelude.{Bool, not, ◌&&◌, List, ℕ, ◌-◌, eqb, get_or, drop, if◌then◌else◌}
-use Rattle.text.specs.declared.hex.Piece.{Piece}
 use Rattle.text.specs.Words.{is_blank}
-use Rattle.text.specs.Runs.{is_gap, opening, piece_of}
+use Rattle.text.specs.Runs.{is_gap, opening, Piece, piece_of}
 
 -- a blank stands before a place
 unfoldable pub blank_before : List ℕ → ℕ → Bool

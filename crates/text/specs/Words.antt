@@ -1,5 +1,6 @@
 -- Words of a line, parted by blanks: spaces and tabs. Assumes nothing.
-use Rattle.std.specs.Prelude.{Bool, true, false, not, ◌&&◌, ◌||◌, List, [], ◌∷◌, ℕ, suc, ◌+◌, eqb, ltb, length, get_or, take, drop, if◌then◌else◌}
+use Rattle.std.specs.Char.{to_ascii_lowercase}
+use Rattle.std.specs.Prelude.{Bool, true, false, not, ◌&&◌, ◌||◌, ◌≡◌, List, [], ◌∷◌, ℕ, suc, ◌+◌, ◌<◌, eqb, length, get_or, take, drop, if◌then◌else◌}
 use Rattle.text.specs.declared.words.Keyword.{Keyword}
 use Rattle.text.specs.declared.words.Keyword.TheVariants as w
 use Rattle.text.specs.declared.words.FirstWord.{FirstWord}
@@ -15,9 +16,13 @@ abbrev pub lead : (ℕ → Bool) → List ℕ → ℕ
 lead p [] = 0
 lead p (c ∷ s) = if p c then suc (lead p s) else 0
 
+-- what answers is the answer of a test of bytes
+abbrev pub Decides : (ℕ → Bool → Type 0) → (ℕ → Bool) → Type 0
+Decides answers p = (c : ℕ) → c < 256 → (b : Bool) → answers c b → b ≡ p c
+
 -- a capital as a small letter, anything else as it is
-unfoldable pub lowered : ℕ → ℕ
-lowered c = if ltb c 65 then c else if ltb c 91 then c + 32 else c
+abbrev pub lowered : ℕ → ℕ
+lowered c = to_ascii_lowercase c
 
 -- a word is one that is given in small letters; its own may be of either case
 abbrev pub same_word : List ℕ → List ℕ → Bool

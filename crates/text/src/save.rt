@@ -4,8 +4,7 @@ ghost use Rattle.std.specs.Prelude.{◌≤◌, length};
 use crate::args::PATH_MAX;
 use crate::file::path_text;
 use print::fail::fail;
-use print::hex::put_byte;
-use print::put::put_text;
+use print::line::Line;
 use std::fs::{File, OpenOptions};
 use std::io::{ErrorKind, Write};
 use std::random::RandomSource;
@@ -13,29 +12,23 @@ use std::{fs, io};
 
 const LAST: usize = PATH_MAX - 1;
 
+const NAME_MAX: usize = PATH_MAX + 7;
+
 // The system's number for a path that is too long.
 const ENAMETOOLONG: i32 = 36;
 
 // Whether a path is a symbolic link.
 fn is_link(rt: &HostRuntime, path: &str) -> bool {
-    match fs::symlink_metadata(rt, path) {
-        Ok(found) => found.is_symlink(),
-        Err(_) => false,
-    }
+    fs::symlink_metadata(rt, path).is_ok_and(|found| found.is_symlink())
 }
 
 // Where the name in a path begins: behind the last slash.
 fn name_start(path: &[u8]) -> usize
     ensures { result ≤ length path.now }
 {
-    let mut i = path.len();
-    while 0 < i {
-        if path[i - 1] == b'/' {
-            break;
-        }
-        i -= 1;
-    }
-    i
+    path.iter()
+        .rposition(|c| *c == b'/')
+        .map_or(0, |slash| slash + 1)
 }
 
 // Has the system keep the names in a folder as they are now.
@@ -54,17 +47,15 @@ fn keep_name(rt: &HostRuntime, path: &[u8]) -> io::Result<()> {
 }
 
 // Writes bytes, has the system keep them, and closes the file.
-fn keep(file: File, bytes: &[u8]) -> io::Result<()> {
-    let mut to = file;
-    to.write_all(bytes)?;
-    to.sync_all()
+fn keep(mut file: File, bytes: &[u8]) -> io::Result<()> {
+    file.write_all(bytes)?;
+    file.sync_all()
 }
 
 // Writes bytes and closes what takes them, which may be none that the system can keep.
-fn hand_over(file: File, bytes: &[u8]) -> io::Result<()> {
-    let mut to = file;
-    to.write_all(bytes)?;
-    let _ = to.sync_all();
+fn hand_over(mut file: File, bytes: &[u8]) -> io::Result<()> {
+    file.write_all(bytes)?;
+    let _ = file.sync_all();
     Ok(())
 }
 
@@ -74,24 +65,20 @@ fn make(rt: &HostRuntime, name: &str, bytes: &[u8]) -> io::Result<()> {
         .write(true)
         .create_new(true)
         .open(rt, name)?;
-    match keep(made, bytes) {
-        Ok(()) => Ok(()),
-        Err(why) => {
-            let _ = fs::remove_file(rt, name);
-            Err(why)
-        }
+    let kept = keep(made, bytes);
+    if kept.is_err() {
+        let _ = fs::remove_file(rt, name);
     }
+    kept
 }
 
 // Moves a file from its name to a path, or removes it where that fails.
 fn rename(rt: &HostRuntime, name: &str, path: &str) -> io::Result<()> {
-    match fs::rename(rt, name, path) {
-        Ok(()) => Ok(()),
-        Err(why) => {
-            let _ = fs::remove_file(rt, name);
-            Err(why)
-        }
+    let moved = fs::rename(rt, name, path);
+    if moved.is_err() {
+        let _ = fs::remove_file(rt, name);
     }
+    moved
 }
 
 // Makes the file under another name, and moves it to its path when it is whole.
@@ -102,15 +89,15 @@ fn move_in(rt: &HostRuntime, name: &[u8], path: &[u8], bytes: &[u8]) -> io::Resu
     keep_name(rt, path)
 }
 
-// The name beside a path: a dot and six digits behind it. Returns its length.
-fn put_name(out: &mut [u8], path: &[u8], draw: [u8; 3]) -> usize
-    ensures { result ≤ length out.new }
-{
-    let dot = put_text(out, 0, path);
-    let a = put_text(out, dot, b".");
-    let b = put_byte(out, a, draw[0]);
-    let c = put_byte(out, b, draw[1]);
-    put_byte(out, c, draw[2])
+// The name beside a path: a dot and six digits behind it.
+fn name_beside(path: &[u8], draw: [u8; 3]) -> Line<NAME_MAX> {
+    let mut name = Line::new();
+    name.put(path);
+    name.put(b".");
+    for b in draw {
+        name.byte(b);
+    }
+    name
 }
 
 // Puts a new file in the place of a path.
@@ -120,9 +107,8 @@ fn replace(rt: &HostRuntime, path: &[u8], bytes: &[u8]) -> io::Result<()> {
     }
     let mut draw = [0u8; 3];
     rt.fill_bytes(&mut draw)?;
-    let mut name = [0u8; PATH_MAX + 7];
-    let n = put_name(&mut name, path, draw);
-    move_in(rt, &name[0..n], path, bytes)
+    let name = name_beside(path, draw);
+    move_in(rt, name.text(), path, bytes)
 }
 
 // What stands at a path takes bytes: a device or a pipe, which the system has nothing to keep of, is written to; a new file takes the place of any
@@ -133,13 +119,11 @@ fn save_over(rt: &HostRuntime, old: File, path: &[u8], bytes: &[u8]) -> io::Resu
             drop(old);
             replace(rt, path, bytes)
         }
-        Err(why) => {
-            if why.kind() != ErrorKind::InvalidInput {
-                return Err(why);
-            }
+        Err(why) if why.kind() == ErrorKind::InvalidInput => {
             let _ = old.set_len(0);
             hand_over(old, bytes)
         }
+        Err(why) => Err(why),
     }
 }
 
@@ -151,12 +135,8 @@ fn save_at(rt: &HostRuntime, path: &[u8], bytes: &[u8]) -> io::Result<()> {
     }
     match OpenOptions::new().append(true).open(rt, text) {
         Ok(old) => save_over(rt, old, path, bytes),
-        Err(why) => {
-            if why.kind() == ErrorKind::NotFound {
-                return replace(rt, path, bytes);
-            }
-            Err(why)
-        }
+        Err(why) if why.kind() == ErrorKind::NotFound => replace(rt, path, bytes),
+        Err(why) => Err(why),
     }
 }
 

@@ -1,10 +1,10 @@
 // The first word of an event line. Words are parted by blanks, spaces and tabs, and their letters may be of either case.
-ghost use Rattle.std.specs.Prelude.{◌≡◌, ◌+◌, ◌≤◌, length, drop};
-ghost use Rattle.text.specs.Words.{is_blank, solid, lead, lowered, same_word, bare_word, word_of, first_word};
+ghost use Rattle.std.specs.Prelude.{Bool, not, ◌≡◌, ℕ, ◌+◌, ◌≤◌, length, drop};
+ghost use Rattle.text.specs.Words.{is_blank, solid, lead, Decides, same_word, bare_word, word_of, first_word};
 
 // What the first word of a line is: Empty where it has only blanks, Comment where its first byte but blanks is `#`. LabelSeal and ChipSeal are the
 // words with a `+`: the check sum is to be added.
-#[derive(Clone, Copy)]
+#[derive(Clone, Copy, PartialEq, Eq)]
 pub enum Keyword {
     Empty,
     Comment,
@@ -20,19 +20,31 @@ pub enum Keyword {
 }
 
 // The first word of a line and the place behind it, where the rest starts: the end of the line for a comment.
-#[derive(Clone, Copy)]
+#[derive(Clone, Copy, PartialEq, Eq)]
 pub struct FirstWord {
     pub word: Keyword,
     pub rest: usize,
 }
 
+#[tactic(auto, unfolding(crate::specs::Words::is_blank))]
 pub fn is_blank(c: u8) -> bool
     ensures { result ≡ is_blank c }
 {
-    if c == b' ' {
-        return true;
+    matches!(c, b' ' | b'\t')
+}
+
+// The first place from `from` on whose byte passes a test, or s's length.
+pub fn first_from<F: Fn(u8) -> bool>(s: &[u8], from: usize, stops: F) -> usize
+    requires in_bounds { from ≤ length s.now }
+    requires callable { F.IsAlwaysCallable stops }
+    ensures { (p : ℕ → Bool) → Decides (F.post stops) p → result ≡ from + lead (λ c. not (p c)) (drop from s.now) }
+{
+    for i in from..s.len() {
+        if stops(s[i]) {
+            return i;
+        }
     }
-    c == b'\t'
+    s.len()
 }
 
 // The first place from `from` on that holds no blank, or s's length.
@@ -40,14 +52,7 @@ pub fn skip_blanks(s: &[u8], from: usize) -> usize
     requires { from ≤ length s.now }
     ensures { result ≡ from + lead is_blank (drop from s.now) }
 {
-    let mut i = from;
-    while i < s.len() {
-        if !is_blank(s[i]) {
-            return i;
-        }
-        i += 1;
-    }
-    i
+    first_from(s, from, |c| !is_blank(c))
 }
 
 // The first place from `from` on that holds a blank, or s's length.
@@ -55,47 +60,18 @@ pub fn word_end(s: &[u8], from: usize) -> usize
     requires { from ≤ length s.now }
     ensures { result ≡ from + lead solid (drop from s.now) }
 {
-    let mut i = from;
-    while i < s.len() {
-        if is_blank(s[i]) {
-            return i;
-        }
-        i += 1;
-    }
-    i
-}
-
-// A capital as a small letter, anything else as it is.
-pub fn lower(c: u8) -> u8
-    ensures { result ≡ lowered c }
-{
-    if c < 65 {
-        return c;
-    }
-    if c < 91 {
-        return c + 32;
-    }
-    c
+    first_from(s, from, |c| is_blank(c))
 }
 
 // Whether a, its letters in either case, is b, which is in small letters.
 pub fn same_word(a: &[u8], b: &[u8]) -> bool
     ensures { result ≡ same_word a.now b.now }
 {
-    if a.len() != b.len() {
-        return false;
-    }
-    let mut i = 0;
-    while i < a.len() {
-        if lower(a[i]) != b[i] {
-            return false;
-        }
-        i += 1;
-    }
-    true
+    a.len() == b.len() && a.iter().zip(b).all(|(x, y)| x.to_ascii_lowercase() == *y)
 }
 
 // A word that takes nothing.
+#[tactic(auto, unfolding(crate::specs::Words::bare_word))]
 fn bare_word(s: &[u8]) -> Keyword
     ensures { result ≡ bare_word s.now }
 {
@@ -111,6 +87,7 @@ fn bare_word(s: &[u8]) -> Keyword
     Keyword::Unknown
 }
 
+#[tactic(auto, unfolding(crate::specs::Words::word_of))]
 fn named(s: &[u8]) -> Keyword
     ensures { result ≡ word_of s.now }
 {

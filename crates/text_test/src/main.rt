@@ -5,43 +5,34 @@
 use print::fail::tell;
 use print::say::{line_end, print_byte, print_bytes, print_number, print_uid, say, say_number};
 use text::args;
-use text::count::{CountRead, count_in};
-use text::hex::{HexRun, read_bytes};
-use text::lines::{Reached, is_end, next, source_of};
+use text::count::count_in;
+use text::hex::{HexError, read_bytes};
+use text::lines::{Reached, next, source_of};
 use text::mark::after_mark;
 use text::words::{Keyword, first_word, same_word};
 
-fn name(rt: &HostRuntime, w: Keyword) -> bool {
+fn name(w: Keyword) -> &'static [u8] {
     match w {
-        Keyword::Empty => say(rt, b" empty"),
-        Keyword::Comment => say(rt, b" comment"),
-        Keyword::Off => say(rt, b" off"),
-        Keyword::On => say(rt, b" on"),
-        Keyword::Eof => say(rt, b" eof"),
-        Keyword::Label => say(rt, b" label"),
-        Keyword::LabelSeal => say(rt, b" label+"),
-        Keyword::Chip => say(rt, b" chip"),
-        Keyword::ChipSeal => say(rt, b" chip+"),
-        Keyword::Draws => say(rt, b" draws"),
-        Keyword::Unknown => say(rt, b" unknown"),
+        Keyword::Empty => b" empty",
+        Keyword::Comment => b" comment",
+        Keyword::Off => b" off",
+        Keyword::On => b" on",
+        Keyword::Eof => b" eof",
+        Keyword::Label => b" label",
+        Keyword::LabelSeal => b" label+",
+        Keyword::Chip => b" chip",
+        Keyword::ChipSeal => b" chip+",
+        Keyword::Draws => b" draws",
+        Keyword::Unknown => b" unknown",
     }
 }
 
 // Whether hex stands behind a word.
 fn takes_bytes(w: Keyword) -> bool {
-    match w {
-        Keyword::Label => true,
-        Keyword::LabelSeal => true,
-        Keyword::Chip => true,
-        Keyword::ChipSeal => true,
-        Keyword::Draws => true,
-        Keyword::Empty => false,
-        Keyword::Comment => false,
-        Keyword::Off => false,
-        Keyword::On => false,
-        Keyword::Eof => false,
-        Keyword::Unknown => false,
-    }
+    matches!(
+        w,
+        Keyword::Label | Keyword::LabelSeal | Keyword::Chip | Keyword::ChipSeal | Keyword::Draws
+    )
 }
 
 fn place(rt: &HostRuntime, what: &[u8], i: usize) {
@@ -51,37 +42,27 @@ fn place(rt: &HostRuntime, what: &[u8], i: usize) {
 // The bytes of a rest of a line, of which there are to be at most 8.
 fn bytes(rt: &HostRuntime, s: &[u8]) {
     let mut out = [0u8; 8];
-    let r = read_bytes(s, &mut out);
-    match r {
-        HexRun::Good(n) => {
+    match read_bytes(s, &mut out) {
+        Ok(n) => {
             place(rt, b" bytes ", n);
             say(rt, b": ");
-            print_bytes(rt, &out[0..n]);
+            print_bytes(rt, &out[..n]);
         }
-        HexRun::Bad(i) => place(rt, b" bad at ", i),
-        HexRun::Odd(i) => place(rt, b" odd at ", i),
-        HexRun::Full => {
+        Err(HexError::Bad(i)) => place(rt, b" bad at ", i),
+        Err(HexError::Odd(i)) => place(rt, b" odd at ", i),
+        Err(HexError::Full) => {
             say(rt, b" full");
         }
     }
 }
 
-fn rest(rt: &HostRuntime, w: Keyword, s: &[u8], from: usize) {
-    if !takes_bytes(w) {
-        return;
-    }
-    if s.len() < from {
-        return;
-    }
-    bytes(rt, &s[from..]);
-}
-
 fn line(rt: &HostRuntime, n: u64, s: &[u8]) {
     print_number(rt, n);
     let first = first_word(s);
-    let word = first.word;
-    name(rt, word);
-    rest(rt, word, s, first.rest);
+    say(rt, name(first.word));
+    if takes_bytes(first.word) && first.rest <= s.len() {
+        bytes(rt, &s[first.rest..]);
+    }
     line_end(rt);
 }
 
@@ -90,40 +71,18 @@ fn too_long(rt: &HostRuntime, n: u64) {
     say(rt, b" too long\n");
 }
 
-// One answer of `next`: the number of lines so far.
-fn turn(rt: &HostRuntime, n: u64, reached: Reached, s: &[u8]) -> u64 {
-    let more = std::num::wrapping_add_u64(n, 1);
-    match reached {
-        Reached::Line => {
-            line(rt, more, s);
-            more
-        }
-        Reached::Long => {
-            too_long(rt, more);
-            more
-        }
-        Reached::End => n,
-    }
-}
-
-// Every line of the input: at most 2^62 turns, which no input outlasts.
+// Every line of the input: at most 2^62, which no input outlasts.
 fn lines(rt: &HostRuntime, buf: &mut [u8]) {
     let mut input = rt.stdin();
     let mut source = source_of();
-    let mut n: u64 = 0;
-    let mut left: u64 = 4611686018427387904;
-    while 0 < left {
-        left -= 1;
-        let g = next(rt, &mut input, source, buf);
-        let reached = g.reached;
-        if is_end(reached) {
-            return;
+    for n in 1..4611686018427387905u64 {
+        let got = next(rt, &mut input, source, buf);
+        match got.reached {
+            Reached::Line(from, to) => line(rt, n, &buf[from..to]),
+            Reached::Long => too_long(rt, n),
+            Reached::End => return,
         }
-        let from = g.from;
-        let to = g.to;
-        n = turn(rt, n, reached, &buf[from..to]);
-        let s = g.source;
-        source = s;
+        source = got.source;
     }
 }
 
@@ -143,10 +102,8 @@ fn printed(rt: &HostRuntime) {
 }
 
 fn count(rt: &HostRuntime, word: &[u8]) {
-    let r = count_in(word);
-    match r {
-        CountRead::Count(n) => say_number(rt, b" number ", n),
-        CountRead::Other => (),
+    if let Some(n) = count_in(word) {
+        say_number(rt, b" number ", n);
     }
 }
 

@@ -1,6 +1,4 @@
 -- The laws of words.
-pub mod Steps
 pub mod TokensWords
-pub mod TokensNumbers
-pub mod DataCopied
+pub mod TokensHigh
 pub mod DataHeld

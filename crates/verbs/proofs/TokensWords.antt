@@ -1,12 +1,11 @@
--- Words by their places, and bytes from the end. Assumes nothing.
-use Rattle.std.proofs.Common.{◌≡◌, ℕ, suc, ◌+◌, ◌-◌, ◌<◌, ◌≤◌, List, [], ◌∷◌, ◌++◌, reverse, length, get_or, take, drop, sym, refl, ap, ◌∙◌, ⊎_elim, arith, get_or-append-add, le-ltb, lt-ltb, eq-eqb, ne_eqb}
-use mathlib.Core.List.{reverse-cons}
-use lib.ListN.{length-reverse, get_or-append, get_or-eq_default}
-use Rattle.frame.proofs.Bools.{below_or_not}
+-- Words by their places, and the next byte of a kind. Assumes nothing.
+use Rattle.std.proofs.Common.{◌≡◌, ℕ, ◌+◌, ◌-◌, ◌<◌, ◌≤◌, List, ◌∷◌, length, get_or, drop, sym, refl, ap, ◌∙◌, arith, le-ltb, lt-ltb, eq-eqb, ne_eqb, length-drop, take_all, Option}
+use Rattle.std.specs.List.{AllWithin, HoldsAt}
+use Rattle.std.specs.Option.{MatchOption, unwrap_or}
+use Rattle.std.proofs.lemmas.Iterator.{index_from_first}
 use Rattle.text.specs.Words.{is_blank, solid, lead}
-use Rattle.text.proofs.WordsLead.{lead_from}
-use Rattle.verbs.specs.declared.tokens.Span.{Span}
-use Rattle.verbs.specs.Tokens.{span, word_here, word_from, text_of}
+use Rattle.text.proofs.WordsLead.{lead_from, lead_within}
+use Rattle.verbs.specs.Tokens.{span, word_here, word_from, text_of, rest_of, another, find_in}
 
 -- ---- the next word
 
@@ -31,41 +30,32 @@ module _ (s : List ℕ) (from : ℕ) where
     unfolding word_here
     word_there f g k = ap (span at) k ∙ sym (rw (ne_eqb (get_or s at 0) 35 (λ q. g (f ∙ q))) refl) ∙ here
 
--- ---- the bytes of a word
+-- ---- the next such byte
 
-pub text_out : (s : List ℕ) (w : Span) → length s < w.to → [] ≡ text_of s w
+module _ (b : ℕ) where
+  stops : (x : ℕ) (xs : List ℕ) → x ≡ b → lead (another b) (x ∷ xs) ≡ 0
+  stops x xs h = rw (eq-eqb x b h) refl
+
+  goes : (x : ℕ) (xs : List ℕ) → (x ≡ b → ⊥) → lead (another b) (x ∷ xs) ≡ lead (another b) xs + 1
+  goes x xs h = rw (ne_eqb x b h) (omega arith)
+
+  -- what `position` finds
+  pub lead_first : (s : List ℕ) (r : Option ℕ)
+      → MatchOption r (AllWithin (λ x. x ≡ b → ⊥) s 0 (length s)) (λ i. (i < length s) × HoldsAt (λ x. x ≡ b) s i × AllWithin (λ x. x ≡ b → ⊥) s 0 i)
+      → lead (another b) s ≡ unwrap_or r (length s)
+  lead_first = index_from_first (lead (another b)) (λ x. x ≡ b) (λ x. x ≡ b → ⊥) refl stops goes
+
+pub rest_is : (s : List ℕ) (from : ℕ) → rest_of s from ≡ drop from s
 unfolding text_of
-text_out s w h = sym (rw (lt-ltb (length s) w.to h) refl)
+rest_is s from = rw (le-ltb (length s) (length s) (omega arith)) (take_all (length s - from) (drop from s) (simp length-drop (omega arith)))
 
-pub text_turned : (s : List ℕ) (w : Span) → w.to ≤ length s → w.to < w.from → [] ≡ text_of s w
-unfolding text_of
-text_turned s w h k = let e : w.to - w.from ≡ 0 = omega arith in sym (rw (le-ltb (length s) w.to h, e) refl)
+module _ (s : List ℕ) (from b : ℕ) {r : ℕ} (e : lead (another b) (rest_of s from) ≡ r) where
+  pub find_is : from + r ≡ find_in s from b
+  unfolding find_in
+  find_is = ap (λ (k : ℕ). from + k) (sym e ∙ ap (lead (another b)) (rest_is s from))
 
-pub text_here : (s : List ℕ) (w : Span) → w.to ≤ length s → take (w.to - w.from) (drop w.from s) ≡ text_of s w
-unfolding text_of
-text_here s w h = sym (rw (le-ltb (length s) w.to h) refl)
-
--- ---- bytes from the end
-
-pub past_end : (b : List ℕ) (i : ℕ) → length b ≤ i → 0 ≡ get_or (reverse b) i 0
-past_end b i h = sym (get_or-eq_default (reverse b) 0 {n = i} (let n = length-reverse b in omega arith))
-
-pub before_end : (b : List ℕ) (i : ℕ) → i < length b → get_or b (length b - 1 - i) 0 ≡ get_or (reverse b) i 0
-before_end [] i h = absurd (omega arith)
-before_end (x ∷ b) i h =
-    let n = length-reverse b in
-    ⊎_elim
-    (λ (l : i < length b).
-    let e : suc (length b) - 1 - i ≡ suc (length b - 1 - i) = omega arith in
-    ap (λ (k : ℕ). get_or (x ∷ b) k 0) e
-    ∙ before_end b i l
-    ∙ sym (ap (λ (u : List ℕ). get_or u i 0) (reverse-cons x b) ∙ get_or-append (reverse b) (x ∷ []) 0 i (omega arith)))
-    (λ (l : length b ≤ i).
-    let e : suc (length b) - 1 - i ≡ 0 = omega arith in
-    let f : length (reverse b) + 0 ≡ i = omega arith in
-    ap (λ (k : ℕ). get_or (x ∷ b) k 0) e
-    ∙ sym
-    (ap (λ (u : List ℕ). get_or u i 0) (reverse-cons x b)
-    ∙ ap (λ (k : ℕ). get_or (reverse b ++ (x ∷ [])) k 0) (sym f)
-    ∙ get_or-append-add (reverse b) (x ∷ []) 0 0))
-    (below_or_not i (length b))
+  pub find_fits : from + r ≤ from + (length s - from)
+  find_fits =
+      let h = lead_within (another b) (rest_of s from) in
+      let k : length (rest_of s from) ≡ length s - from = ap length (rest_is s from) ∙ length-drop from s in
+      omega arith

@@ -1,10 +1,9 @@
 -- A command from its word and what stands behind it: FORMAT, "Commands". Assumes nothing.
-use Rattle.std.specs.Prelude.{ℕ, ◌-◌, Bool, true, false, ◌&&◌, List, [], ◌∷◌, length, replicate, nat_le, if◌then◌else◌}
+use Rattle.std.specs.Prelude.{ℕ, ◌-◌, Bool, true, false, List, length, replicate, nat_le, if◌then◌else◌, Option, Some, None, Result, Ok, Err, option_and_then}
+use Rattle.print.specs.Ascii.{ascii}
 use Rattle.request.specs.declared.table.Task.{Task}
 use Rattle.request.specs.declared.table.Task.TheVariants as task
 use Rattle.request.specs.Label.{both}
-use Rattle.request.specs.declared.label.Params.{Params}
-use Rattle.request.specs.declared.label.Target.{Target}
 use Rattle.request.specs.declared.label.Target.TheVariants.{Everyone}
 use Rattle.request.specs.declared.label.Family.{Family}
 use Rattle.request.specs.declared.label.Family.TheVariants.{Any, Only}
@@ -14,165 +13,176 @@ use Rattle.reader.specs.declared.command.Command.{Command}
 use Rattle.reader.specs.declared.command.Command.TheVariants as c
 use Rattle.verbs.specs.declared.trouble.What.{What}
 use Rattle.verbs.specs.declared.trouble.What.TheVariants as w
-use Rattle.verbs.specs.declared.trouble.Trouble.TheVariants.{Expected}
+use Rattle.verbs.specs.declared.trouble.Trouble.{Trouble}
 use Rattle.verbs.specs.declared.verb.Tail.{Tail}
 use Rattle.verbs.specs.declared.verb.Tail.TheVariants as tail
 use Rattle.verbs.specs.declared.verb.Counted.{Counted}
 use Rattle.verbs.specs.declared.verb.Counted.TheVariants as counted
 use Rattle.verbs.specs.declared.verb.Verb.{Verb}
 use Rattle.verbs.specs.declared.verb.Verb.TheVariants as verb
-use Rattle.verbs.specs.declared.commands.Says.TheVariants.{Ask, Wrong}
 use Rattle.verbs.specs.declared.commands.Asked.{Asked}
-use Rattle.verbs.specs.declared.pieces.ByteFound.{ByteFound}
+use Rattle.verbs.specs.declared.pieces.Found.{Found}
+use Rattle.verbs.specs.declared.pieces.Aim.{Aim}
+use Rattle.verbs.specs.declared.pieces.Mask.{Mask}
 use Rattle.verbs.specs.Tokens.{is_empty, word_from, text_of}
-use Rattle.verbs.specs.Trouble.{column_of}
+use Rattle.verbs.specs.Trouble.{on_ok, no}
 use Rattle.verbs.specs.Verb.{verb_of}
-use Rattle.verbs.specs.Pieces.{next_is, byte_from, number_from, target_from, mask_from}
+use Rattle.verbs.specs.Pieces.{wanted, ended, next_is, byte_from, number_from, target_from, mask_from}
 
 -- ---- what is asked, and how a line ends
 
 abbrev pub none : List ℕ
 none = replicate 8 0
 
-unfoldable pub asked : Command → List ℕ → ℕ → Asked
-asked c uid at = record { says = Ask c; uid = uid; at = at }
+abbrev pub Answer : Type 0
+Answer = Result Asked Trouble
 
--- at a place something else should stand
-unfoldable pub wrong_at : ℕ → What → Asked
-wrong_at at what = record { says = Wrong (Expected (column_of at) what); uid = none; at = 0 }
+abbrev pub asked : Command → List ℕ → ℕ → Asked
+asked c uid at = record { command = c; uid = uid; at = at }
+
+-- a task for a target, with Option or without
+unfoldable pub asks : Aim → Bool → Task → ℕ → ℕ → Command
+asks aim option task first second = c.Label aim.to option task (both first second)
 
 -- nothing may stand behind a command ..
-unfoldable pub closed : List ℕ → ℕ → What → Command → List ℕ → Asked
-closed line at what c uid = let next = word_from line at in if is_empty next then asked c uid (length line) else wrong_at next.from what
+unfoldable pub closed : List ℕ → ℕ → What → Command → List ℕ → Answer
+closed line at what c uid = on_ok (ended line at what) (λ _. Ok (asked c uid (length line)))
 
 -- .. or bytes must, which it sends
-unfoldable pub opened : List ℕ → ℕ → Command → List ℕ → Asked
-opened line at c uid = let next = word_from line at in if is_empty next then wrong_at next.from w.Data else asked c uid next.from
+unfoldable pub opened : List ℕ → ℕ → Command → List ℕ → Answer
+opened line at c uid = let next = word_from line at in if is_empty next then Err (no next.from w.Data) else Ok (asked c uid next.from)
 
 -- ---- labels
 
 -- a task and its target
-unfoldable pub label_asked : List ℕ → ℕ → What → Task → Asked
+unfoldable pub label_asked : List ℕ → ℕ → What → Task → Answer
 label_asked line at what task =
     let t = target_from line at in
-    if t.fine then closed line t.word.to w.End (c.Label t.to false task (both 0 0)) t.uid else wrong_at t.word.from what
+    on_ok (wanted t what) (λ aim. closed line t.word.to w.End (asks aim false task 0 0) aim.uid)
 
 -- `lock` asks for Option; else `what` should stand there
-unfoldable pub lock_asked : List ℕ → ℕ → What → Task → Target → Params → List ℕ → Asked
-lock_asked line at what task to p uid =
-    if next_is line at (108 ∷ 111 ∷ 99 ∷ 107 ∷ []) then closed line (word_from line at).to w.End (c.Label to true task p) uid
-    else closed line at what (c.Label to false task p) uid
+unfoldable pub lock_asked : List ℕ → ℕ → What → Task → Aim → ℕ → ℕ → Answer
+lock_asked line at what task aim first second =
+    if next_is line at (ascii "lock") then closed line (word_from line at).to w.End (asks aim true task first second) aim.uid
+    else closed line at what (asks aim false task first second) aim.uid
 
 -- a last block, no lower than the first: how many there are behind that
-unfoldable pub last_from : List ℕ → ℕ → ℕ → ByteFound
-last_from line at first = let n = number_from line at in record { fine = n.fine && nat_le first n.byte; byte = n.byte - first; word = n.word }
+abbrev pub behind_first : ℕ → ℕ → Option ℕ
+behind_first first n = if nat_le first n then Some (n - first) else None
 
-unfoldable pub read_to : List ℕ → ℕ → Target → ℕ → List ℕ → Asked
-read_to line at to first uid =
+unfoldable pub last_from : List ℕ → ℕ → ℕ → Found ℕ
+last_from line at first = let n = number_from line at in record { value = option_and_then (behind_first first) n.value; word = n.word }
+
+unfoldable pub read_to : List ℕ → ℕ → Aim → ℕ → Answer
+read_to line at aim first =
     let n = last_from line at first in
-    if n.fine then lock_asked line n.word.to w.LockOrEnd task.ReadMany to (both first n.byte) uid else wrong_at n.word.from w.Last
+    on_ok (wanted n w.Last) (λ more. lock_asked line n.word.to w.LockOrEnd task.ReadMany aim first more)
 
 -- a block is read, or with `to` several
-unfoldable pub read_asked : List ℕ → ℕ → Target → ℕ → List ℕ → Asked
-read_asked line at to first uid =
-    if next_is line at (116 ∷ 111 ∷ []) then read_to line (word_from line at).to to first uid
-    else lock_asked line at w.ToLockOrEnd task.Read to (both first 0) uid
+unfoldable pub read_asked : List ℕ → ℕ → Aim → ℕ → Answer
+read_asked line at aim first =
+    if next_is line at (ascii "to") then read_to line (word_from line at).to aim first
+    else lock_asked line at w.ToLockOrEnd task.Read aim first 0
 
-unfoldable pub status_to : List ℕ → ℕ → Target → ℕ → List ℕ → Asked
-status_to line at to first uid =
+unfoldable pub status_to : List ℕ → ℕ → Aim → ℕ → Answer
+status_to line at aim first =
     let n = last_from line at first in
-    if n.fine then closed line n.word.to w.End (c.Label to false task.Status (both first n.byte)) uid else wrong_at n.word.from w.Last
+    on_ok (wanted n w.Last) (λ more. closed line n.word.to w.End (asks aim false task.Status first more) aim.uid)
 
 -- the lock of a block, or with `to` of several
-unfoldable pub status_asked : List ℕ → ℕ → Target → ℕ → List ℕ → Asked
-status_asked line at to first uid =
-    if next_is line at (116 ∷ 111 ∷ []) then status_to line (word_from line at).to to first uid
-    else closed line at w.ToOrEnd (c.Label to false task.Status (both first 0)) uid
+unfoldable pub status_asked : List ℕ → ℕ → Aim → ℕ → Answer
+status_asked line at aim first =
+    if next_is line at (ascii "to") then status_to line (word_from line at).to aim first
+    else closed line at w.ToOrEnd (asks aim false task.Status first 0) aim.uid
 
 -- what may follow a block's number n
-unfoldable pub tail_asked : Tail → List ℕ → ℕ → Task → Target → ℕ → List ℕ → Asked
-tail_asked tail.Nothing line at task to n uid = closed line at w.End (c.Label to false task (both n 0)) uid
-tail_asked tail.Read line at task to n uid = read_asked line at to n uid
-tail_asked tail.Status line at task to n uid = status_asked line at to n uid
-tail_asked tail.Data line at task to n uid = opened line at (c.Label to false task (both n 0)) uid
+unfoldable pub tail_asked : Tail → List ℕ → ℕ → Task → Aim → ℕ → Answer
+tail_asked tail.Nothing line at task aim n = closed line at w.End (asks aim false task n 0) aim.uid
+tail_asked tail.Read line at task aim n = read_asked line at aim n
+tail_asked tail.Status line at task aim n = status_asked line at aim n
+tail_asked tail.Data line at task aim n = opened line at (asks aim false task n 0) aim.uid
 
 -- a task, its target and a block's number
-unfoldable pub block_of : List ℕ → ℕ → Task → Tail → Target → List ℕ → Asked
-block_of line at task behind to uid =
+unfoldable pub block_of : List ℕ → ℕ → Task → Tail → Aim → Answer
+block_of line at task behind aim =
     let n = number_from line at in
-    if n.fine then tail_asked behind line n.word.to task to n.byte uid else wrong_at n.word.from w.Number
+    on_ok (wanted n w.Number) (tail_asked behind line n.word.to task aim)
 
-unfoldable pub block_asked : List ℕ → ℕ → Task → Tail → Asked
+unfoldable pub block_asked : List ℕ → ℕ → Task → Tail → Answer
 block_asked line at task behind =
     let t = target_from line at in
-    if t.fine then block_of line t.word.to task behind t.to t.uid else wrong_at t.word.from w.Target
+    on_ok (wanted t w.Target) (block_of line t.word.to task behind)
 
 -- a field of a label, its target, and a byte to be written or `lock`
-unfoldable pub field_of : List ℕ → ℕ → Task → Task → Target → List ℕ → Asked
-field_of line at write lock to uid =
-    let b = byte_from line at in
-    if b.fine then closed line b.word.to w.End (c.Label to false write (both b.byte 0)) uid
-    else if next_is line at (108 ∷ 111 ∷ 99 ∷ 107 ∷ []) then closed line b.word.to w.End (c.Label to false lock (both 0 0)) uid
-    else wrong_at b.word.from w.ByteOrLock
+abbrev pub field_by : Found ℕ → List ℕ → ℕ → Task → Task → Aim → Option ℕ → Answer
+field_by b line at write _ aim (Some byte) = closed line b.word.to w.End (asks aim false write byte 0) aim.uid
+field_by b line at _ lock aim None =
+    if next_is line at (ascii "lock") then closed line b.word.to w.End (asks aim false lock 0 0) aim.uid
+    else Err (no b.word.from w.ByteOrLock)
 
-unfoldable pub field_asked : List ℕ → ℕ → Task → Task → Asked
+unfoldable pub field_of : List ℕ → ℕ → Task → Task → Aim → Answer
+field_of line at write lock aim = let b = byte_from line at in field_by b line at write lock aim b.value
+
+unfoldable pub field_asked : List ℕ → ℕ → Task → Task → Answer
 field_asked line at write lock =
     let t = target_from line at in
-    if t.fine then field_of line t.word.to write lock t.to t.uid else wrong_at t.word.from w.Target
+    on_ok (wanted t w.Target) (field_of line t.word.to write lock)
 
 -- ---- chips
 
-unfoldable pub chip_asked : List ℕ → ℕ → ChipTask → Asked
+unfoldable pub chip_asked : List ℕ → ℕ → ChipTask → Answer
 chip_asked line at task = closed line at w.End (c.Chip Everyone false task) none
 
 -- one byte is a chip's, anything else a label's target
-unfoldable pub select_asked : List ℕ → ℕ → Asked
-select_asked line at =
-    let b = byte_from line at in
-    if b.fine then chip_asked line b.word.to (p.Select b.byte) else label_asked line at w.Selected task.Select
+abbrev pub select_by : Found ℕ → List ℕ → ℕ → Option ℕ → Answer
+select_by b line at (Some id) = chip_asked line b.word.to (p.Select id)
+select_by b line at None = label_asked line at w.Selected task.Select
 
-unfoldable pub counted_by : Counted → List ℕ → ℕ → ℕ → Asked
+unfoldable pub select_asked : List ℕ → ℕ → Answer
+select_asked line at = let b = byte_from line at in select_by b line at b.value
+
+unfoldable pub counted_by : Counted → List ℕ → ℕ → ℕ → Answer
 counted_by counted.Slot line at n = chip_asked line at (p.Marker n)
 counted_by counted.Get line at n = chip_asked line at (p.Read n)
 counted_by counted.Put line at n = opened line at (c.Chip Everyone false (p.Write n)) none
 
-unfoldable pub counted_asked : List ℕ → ℕ → Counted → Asked
+unfoldable pub counted_asked : List ℕ → ℕ → Counted → Answer
 counted_asked line at kind =
     let n = number_from line at in
-    if n.fine then counted_by kind line n.word.to n.byte else wrong_at n.word.from w.Number
+    on_ok (wanted n w.Number) (counted_by kind line n.word.to)
 
 -- ---- an Inventory: 16, afi HH, mask BITS/HEX, in this order, each where it is given
 
-unfoldable pub inventory_end : List ℕ → ℕ → What → Family → Bool → ℕ → ℕ → Asked
-inventory_end line at what family sixteen bits mask = closed line at what (c.Inventory Everyone false family sixteen bits mask) none
+unfoldable pub inventory_end : List ℕ → ℕ → What → Family → Bool → Mask → Answer
+inventory_end line at what family sixteen mask = closed line at what (c.Inventory Everyone false family sixteen mask.bits mask.number) none
 
-unfoldable pub mask_of : List ℕ → ℕ → Family → Bool → Asked
+unfoldable pub mask_of : List ℕ → ℕ → Family → Bool → Answer
 mask_of line at family sixteen =
     let m = mask_from line at in
-    if m.fine then inventory_end line m.word.to w.End family sixteen m.bits m.mask else wrong_at m.word.from w.Mask
+    on_ok (wanted m w.Mask) (inventory_end line m.word.to w.End family sixteen)
 
-unfoldable pub mask_asked : List ℕ → ℕ → Family → Bool → Asked
+unfoldable pub mask_asked : List ℕ → ℕ → Family → Bool → Answer
 mask_asked line at family sixteen =
-    if next_is line at (109 ∷ 97 ∷ 115 ∷ 107 ∷ []) then mask_of line (word_from line at).to family sixteen
-    else inventory_end line at w.Options family sixteen 0 0
+    if next_is line at (ascii "mask") then mask_of line (word_from line at).to family sixteen
+    else inventory_end line at w.Options family sixteen (record { bits = 0; number = 0 })
 
-unfoldable pub family_of : List ℕ → ℕ → Bool → Asked
+unfoldable pub family_of : List ℕ → ℕ → Bool → Answer
 family_of line at sixteen =
     let b = byte_from line at in
-    if b.fine then mask_asked line b.word.to (Only b.byte) sixteen else wrong_at b.word.from w.Byte
+    on_ok (wanted b w.Byte) (λ family. mask_asked line b.word.to (Only family) sixteen)
 
-unfoldable pub family_asked : List ℕ → ℕ → Bool → Asked
+unfoldable pub family_asked : List ℕ → ℕ → Bool → Answer
 family_asked line at sixteen =
-    if next_is line at (97 ∷ 102 ∷ 105 ∷ []) then family_of line (word_from line at).to sixteen else mask_asked line at Any sixteen
+    if next_is line at (ascii "afi") then family_of line (word_from line at).to sixteen else mask_asked line at Any sixteen
 
-unfoldable pub inventory_asked : List ℕ → ℕ → Asked
+unfoldable pub inventory_asked : List ℕ → ℕ → Answer
 inventory_asked line at =
-    if next_is line at (49 ∷ 54 ∷ []) then family_asked line (word_from line at).to true else family_asked line at false
+    if next_is line at (ascii "16") then family_asked line (word_from line at).to true else family_asked line at false
 
 -- ---- a line
 
 -- its verb stands at place `from` and ends at place `at`
-unfoldable pub verb_asked : Verb → List ℕ → ℕ → ℕ → Asked
+unfoldable pub verb_asked : Verb → List ℕ → ℕ → ℕ → Answer
 verb_asked verb.Inventory line from at = inventory_asked line at
 verb_asked (verb.Chip task) line from at = chip_asked line at task
 verb_asked (verb.Number kind) line from at = counted_asked line at kind
@@ -180,7 +190,7 @@ verb_asked verb.Select line from at = select_asked line at
 verb_asked (verb.Label task) line from at = label_asked line at w.Target task
 verb_asked (verb.Block task behind) line from at = block_asked line at task behind
 verb_asked (verb.Field write lock) line from at = field_asked line at write lock
-verb_asked verb.Unknown line from at = wrong_at from w.Event
+verb_asked verb.Unknown line from at = Err (no from w.Event)
 
-unfoldable pub line_asked : List ℕ → Asked
+unfoldable pub line_asked : List ℕ → Answer
 line_asked line = let first = word_from line 0 in verb_asked (verb_of (text_of line first)) line first.from first.to

@@ -1,53 +1,59 @@
 -- The bytes that a command sends: hex up to the end of the line, or a text in quotes. Assumes nothing.
-use Rattle.std.specs.Prelude.{◌≡◌, ℕ, ◌+◌, ◌%◌, ◌^◌, List, [], length, ◌==◌, nat_le, nat_lt, slice_index, if◌then◌else◌}
+use Rattle.std.specs.Prelude.{◌≡◌, ℕ, ◌+◌, ◌%◌, ◌^◌, List, [], length, ◌==◌, nat_le, nat_lt, slice_index, if◌then◌else◌, Result, Ok, Err}
 use Rattle.std.proofs.lemmas.List.Edits.{sets}
 use Rattle.text.specs.Runs.{hex_of}
-use Rattle.text.specs.declared.hex.HexRun.{HexRun}
-use Rattle.text.specs.declared.hex.HexRun.TheVariants.{Good, Bad, Odd, Full}
+use Rattle.text.specs.declared.hex.HexError.{HexError}
+use Rattle.text.specs.declared.hex.HexError.TheVariants.{Bad, Odd, Full}
 use Rattle.verbs.specs.declared.trouble.What.TheVariants as w
+use Rattle.verbs.specs.declared.trouble.Trouble.{Trouble}
 use Rattle.verbs.specs.declared.trouble.Trouble.TheVariants as t
-use Rattle.verbs.specs.declared.data.DataRead.{DataRead}
-use Rattle.verbs.specs.declared.data.DataRead.TheVariants.{Got, Wrong}
-use Rattle.verbs.specs.Tokens.{span, is_empty, word_from, text_of, rest_of, find_in}
-use Rattle.verbs.specs.Trouble.{column_of}
+use Rattle.verbs.specs.Tokens.{span, text_of, rest_of, find_in}
+use Rattle.verbs.specs.Trouble.{no}
+use Rattle.verbs.specs.Pieces.{ended}
 
 -- so many places behind a place; numbers wrap, past any line's end
 unfoldable pub place_of : ℕ → ℕ → ℕ
 place_of at i = (at + i) % 2 ^ 64
 
--- how a run of hex ended that started at a place
-unfoldable pub hex_by : HexRun → ℕ → DataRead
-hex_by (Good n) at = Got n
-hex_by (Bad i) at = Wrong (t.Expected (column_of (place_of at i)) w.Digit)
-hex_by (Odd i) at = Wrong (t.Expected (column_of (place_of at i)) w.Pair)
-hex_by Full at = Wrong t.Full
+-- what is wrong with a run of hex that started at a place
+unfoldable pub hex_trouble : HexError → ℕ → Trouble
+hex_trouble (Bad i) at = no (place_of at i) w.Digit
+hex_trouble (Odd i) at = no (place_of at i) w.Pair
+hex_trouble Full at = t.Full
+
+abbrev pub hex_by : Result ℕ HexError → ℕ → Result ℕ Trouble
+hex_by (Ok n) at = Ok n
+hex_by (Err e) at = Err (hex_trouble e at)
 
 -- what was read, and the bytes at the front of the buffer
 pub record DataSaid : Type 0 where
-  pub read : DataRead
+  pub read : Result ℕ Trouble
   pub bytes : List ℕ
 
 -- a buffer is left so by what was said
-pub record Said (x : DataSaid) (old : List ℕ) (r : DataRead) (new : List ℕ) : Type 0 where
+pub record Said (x : DataSaid) (old : List ℕ) (r : Result ℕ Trouble) (new : List ℕ) : Type 0 where
   pub tells : r ≡ x.read
   pub leaves : new ≡ sets old 0 x.bytes
 
-abbrev pub said : DataRead → List ℕ → DataSaid
+abbrev pub said : Result ℕ Trouble → List ℕ → DataSaid
 said read bytes = record { read = read; bytes = bytes }
 
 -- ---- a text in quotes, from the place behind the first of them on
 
 -- a text, where there is room for it
 unfoldable pub copied : ℕ → List ℕ → DataSaid
-copied room text = if nat_lt room (length text) then said (Wrong t.Full) [] else said (Got (length text)) text
+copied room text = if nat_lt room (length text) then said (Err t.Full) [] else said (Ok (length text)) text
+
+-- what is said where nothing is wrong
+abbrev pub where_fine : Result Unit Trouble → DataSaid → DataSaid
+where_fine (Ok fine) x = x
+where_fine (Err trouble) x = said (Err trouble) []
 
 -- a text that ends at a quote: nothing may stand behind it
 unfoldable pub quoted_to : ℕ → List ℕ → ℕ → ℕ → DataSaid
 quoted_to room line from end =
-    let behind = word_from line (place_of end 1) in
-    if nat_le (length line) end then said (Wrong (t.Expected (column_of end) w.Quote)) []
-    else if is_empty behind then copied room (text_of line (span from end))
-    else said (Wrong (t.Expected (column_of behind.from) w.End)) []
+    if nat_le (length line) end then said (Err (no end w.Quote)) []
+    else where_fine (ended line (place_of end 1) w.End) (copied room (text_of line (span from end)))
 
 unfoldable pub quoted : ℕ → List ℕ → ℕ → DataSaid
 quoted room line from = quoted_to room line from (find_in line from 34)

@@ -1,57 +1,66 @@
 -- The pieces of a command: the next word of a line as a target, a byte, a number or a mask. Assumes nothing.
-use Rattle.std.specs.Prelude.{ℕ, ◌+◌, ◌%◌, ◌^◌, Bool, true, false, not, List, [], ◌∷◌, length, replicate, ◌==◌, if◌then◌else◌}
+use Rattle.std.specs.Prelude.{ℕ, ◌+◌, ◌%◌, ◌^◌, Bool, List, length, replicate, ◌==◌, if◌then◌else◌, Option, Some, None, Result, Ok, Err, option_and_then, ok_or}
+use Rattle.print.specs.Ascii.{ascii}
 use Rattle.frame.specs.Number.{num}
 use Rattle.request.specs.declared.label.Target.TheVariants as to
 use Rattle.text.specs.Words.{same_word}
-use Rattle.verbs.specs.declared.tokens.Span.{Span}
-use Rattle.verbs.specs.declared.tokens.HighRead.{HighRead}
-use Rattle.verbs.specs.declared.tokens.ByteRead.{ByteRead}
-use Rattle.verbs.specs.declared.tokens.ByteRead.TheVariants.{Byte, Other}
-use Rattle.verbs.specs.declared.pieces.ByteFound.{ByteFound}
-use Rattle.verbs.specs.declared.pieces.TargetFound.{TargetFound}
-use Rattle.verbs.specs.declared.pieces.MaskFound.{MaskFound}
-use Rattle.verbs.specs.Tokens.{span, word_from, text_of, find_in, high_in, byte_in, number_in}
+use Rattle.verbs.specs.declared.tokens.High.{High}
+use Rattle.verbs.specs.declared.trouble.What.{What}
+use Rattle.verbs.specs.declared.trouble.Trouble.{Trouble}
+use Rattle.verbs.specs.declared.pieces.Found.{Found}
+use Rattle.verbs.specs.declared.pieces.Aim.{Aim}
+use Rattle.verbs.specs.declared.pieces.Mask.{Mask}
+use Rattle.verbs.specs.Tokens.{span, is_empty, word_from, text_of, find_in, high_in, byte_in, number_in}
+use Rattle.verbs.specs.Trouble.{no}
+
+-- what was found, or what should have stood there
+unfoldable pub wanted : {A : Type 0} → Found A → What → Result A Trouble
+wanted f what = ok_or f.value (no f.word.from what)
 
 -- the next word from a place on is a given one
 unfoldable pub next_is : List ℕ → ℕ → List ℕ → Bool
 next_is line at word = same_word (text_of line (word_from line at)) word
 
+-- nothing may stand from a place on; where something does, `what` should
+unfoldable pub ended : List ℕ → ℕ → What → Result Unit Trouble
+ended line at what = let next = word_from line at in if is_empty next then Ok tt else Err (no next.from what)
+
+-- the next word, read in some way
+abbrev pub found_in : {A : Type 0} → (List ℕ → Option A) → List ℕ → ℕ → Found A
+found_in read line at = let w = word_from line at in record { value = read (text_of line w); word = w }
+
 -- ---- a byte in hex, and a number
 
-unfoldable pub found_by : ByteRead → Span → ByteFound
-found_by (Byte b) w = record { fine = true; byte = b; word = w }
-found_by Other w = record { fine = false; byte = 0; word = w }
+unfoldable pub byte_from : List ℕ → ℕ → Found ℕ
+byte_from = found_in byte_in
 
-unfoldable pub byte_from : List ℕ → ℕ → ByteFound
-byte_from line at = let w = word_from line at in found_by (byte_in (text_of line w)) w
-
-unfoldable pub number_from : List ℕ → ℕ → ByteFound
-number_from line at = let w = word_from line at in found_by (number_in (text_of line w)) w
+unfoldable pub number_from : List ℕ → ℕ → Found ℕ
+number_from = found_in number_in
 
 -- ---- a target: `all`, `selected`, or a UID of eight bytes
 
-unfoldable pub one_by : HighRead → Span → TargetFound
-one_by h w = record { fine = (h.count == 8); to = to.One; uid = h.low; word = w }
+abbrev pub one_of : High → Option Aim
+one_of h = if h.count == 8 then Some (record { to = to.One; uid = h.low }) else None
 
-unfoldable pub target_in : List ℕ → Span → TargetFound
-target_in text w =
-    if same_word text (97 ∷ 108 ∷ 108 ∷ []) then record { fine = true; to = to.Everyone; uid = replicate 8 0; word = w }
-    else if same_word text (115 ∷ 101 ∷ 108 ∷ 101 ∷ 99 ∷ 116 ∷ 101 ∷ 100 ∷ []) then record { fine = true; to = to.Selected; uid = replicate 8 0; word = w }
-    else one_by (high_in text) w
+unfoldable pub target_in : List ℕ → Option Aim
+target_in text =
+    if same_word text (ascii "all") then Some (record { to = to.Everyone; uid = replicate 8 0 })
+    else if same_word text (ascii "selected") then Some (record { to = to.Selected; uid = replicate 8 0 })
+    else option_and_then one_of (high_in text)
 
-unfoldable pub target_from : List ℕ → ℕ → TargetFound
-target_from line at = let w = word_from line at in target_in (text_of line w) w
+unfoldable pub target_from : List ℕ → ℕ → Found Aim
+target_from = found_in target_in
 
 -- ---- a mask: its length in decimal, a slash, its bytes in hex
 
-unfoldable pub mask_by : ByteRead → HighRead → Span → MaskFound
-mask_by (Byte b) h w = record { fine = not (h.count == 0); bits = b; mask = num h.low; word = w }
-mask_by Other h w = record { fine = false; bits = 0; mask = 0; word = w }
+abbrev pub mask_of : ℕ → High → Option Mask
+mask_of bits h = if h.count == 0 then None else Some (record { bits = bits; number = num h.low })
 
-unfoldable pub mask_in : List ℕ → Span → MaskFound
-mask_in text w =
+unfoldable pub mask_in : List ℕ → Option Mask
+mask_in text =
     let at = find_in text 0 47 in
-    mask_by (number_in (text_of text (span 0 at))) (high_in (text_of text (span ((at + 1) % 2 ^ 64) (length text)))) w
+    let hex = text_of text (span ((at + 1) % 2 ^ 64) (length text)) in
+    option_and_then (λ bits. option_and_then (mask_of bits) (high_in hex)) (number_in (text_of text (span 0 at)))
 
-unfoldable pub mask_from : List ℕ → ℕ → MaskFound
-mask_from line at = let w = word_from line at in mask_in (text_of line w) w
+unfoldable pub mask_from : List ℕ → ℕ → Found Mask
+mask_from = found_in mask_in

@@ -1,13 +1,10 @@
 -- Words of a line, and what they say. Assumes nothing.
-use Rattle.std.specs.Prelude.{ℕ, ◌+◌, ◌-◌, ◌*◌, ◌≤◌, Bool, not, List, [], ◌∷◌, reverse, length, take, drop, replicate, ◌==◌, nat_lt, slice_index, if◌then◌else◌}
+use Rattle.std.specs.Prelude.{ℕ, ◌+◌, ◌-◌, ◌*◌, Bool, not, List, [], ◌∷◌, reverse, length, take, drop, ◌==◌, nat_lt, slice_index, if◌then◌else◌, Option, Some, None, option_and_then, Result, Ok, Err}
 use Rattle.text.specs.Words.{is_blank, solid, lead}
 use Rattle.text.specs.Runs.{hex_of}
-use Rattle.text.specs.declared.hex.HexRun.{HexRun}
-use Rattle.text.specs.declared.hex.HexRun.TheVariants.{Good, Bad, Odd, Full}
+use Rattle.text.specs.declared.hex.HexError.{HexError}
 use Rattle.verbs.specs.declared.tokens.Span.{Span}
-use Rattle.verbs.specs.declared.tokens.HighRead.{HighRead}
-use Rattle.verbs.specs.declared.tokens.ByteRead.{ByteRead}
-use Rattle.verbs.specs.declared.tokens.ByteRead.TheVariants.{Byte, Other}
+use Rattle.verbs.specs.declared.tokens.High.{High}
 
 -- ---- words
 
@@ -47,53 +44,38 @@ low_first b =
     let s = reverse b in
     slice_index s 0 ∷ slice_index s 1 ∷ slice_index s 2 ∷ slice_index s 3 ∷ slice_index s 4 ∷ slice_index s 5 ∷ slice_index s 6 ∷ slice_index s 7 ∷ []
 
-abbrev pub none_read : HighRead
-none_read = record { count = 0; low = replicate 8 0 }
+-- a run whose bytes are at the front of a buffer
+abbrev pub high_by : Result ℕ HexError → List ℕ → Option High
+high_by (Ok n) b = Some (record { count = n; low = low_first (take n b) })
+high_by (Err e) b = None
 
--- a run whose bytes are at the front of a buffer of so many
-abbrev pub Fits : HexRun → ℕ → Type 0
-Fits (Good n) room = n ≤ room
-Fits (Bad i) room = Unit
-Fits (Odd i) room = Unit
-Fits Full room = Unit
-
-abbrev pub high_by : HexRun → List ℕ → HighRead
-high_by (Good n) b = record { count = n; low = low_first (take n b) }
-high_by (Bad i) b = none_read
-high_by (Odd i) b = none_read
-high_by Full b = none_read
-
--- what a word of hex has, up to eight bytes; none where it is no such word
-unfoldable pub high_in : List ℕ → HighRead
+-- what a word of hex has, up to eight bytes
+unfoldable pub high_in : List ℕ → Option High
 high_in s = high_by (hex_of 8 s).run (hex_of 8 s).bytes
 
 -- one byte
-abbrev pub byte_by : HighRead → ByteRead
-byte_by h = if h.count == 1 then Byte (slice_index h.low 0) else Other
+abbrev pub byte_of : High → Option ℕ
+byte_of h = if h.count == 1 then Some (slice_index h.low 0) else None
 
-unfoldable pub byte_in : List ℕ → ByteRead
-byte_in s = byte_by (high_in s)
+unfoldable pub byte_in : List ℕ → Option ℕ
+byte_in s = option_and_then byte_of (high_in s)
 
 -- ---- a number of 0 to 255 in decimal
 
--- a digit's value, or 10
-unfoldable pub decimal_of : ℕ → ℕ
-decimal_of c = if nat_lt c 48 then 10 else if nat_lt c 58 then c - 48 else 10
+-- a digit's value
+unfoldable pub decimal_of : ℕ → Option ℕ
+decimal_of c = if nat_lt c 48 then None else if nat_lt c 58 then Some (c - 48) else None
 
 -- a number with one more digit behind it
-abbrev pub digit_by : ℕ → ℕ → ByteRead
-digit_by n d = if nat_lt 9 d then Other else if nat_lt 255 (n * 10 + d) then Other else Byte (n * 10 + d)
+abbrev pub digit_by : ℕ → ℕ → Option ℕ
+digit_by n d = if nat_lt 255 (n * 10 + d) then None else Some (n * 10 + d)
 
-unfoldable pub digit_on : ℕ → ℕ → ByteRead
-digit_on n c = digit_by n (decimal_of c)
+unfoldable pub digit_on : ℕ → ℕ → Option ℕ
+digit_on n c = option_and_then (digit_by n) (decimal_of c)
 
-abbrev pub digit_behind : ByteRead → ℕ → ByteRead
-digit_behind Other c = Other
-digit_behind (Byte n) c = digit_on n c
+abbrev pub number_on : List ℕ → ℕ → Option ℕ
+number_on [] n = Some n
+number_on (c ∷ s) n = option_and_then (number_on s) (digit_on n c)
 
-abbrev pub number_on : List ℕ → ByteRead → ByteRead
-number_on [] r = r
-number_on (c ∷ s) r = number_on s (digit_behind r c)
-
-unfoldable pub number_in : List ℕ → ByteRead
-number_in s = if length s == 0 then Other else number_on s (Byte 0)
+unfoldable pub number_in : List ℕ → Option ℕ
+number_in s = if length s == 0 then None else number_on s 0

@@ -1,358 +1,246 @@
 // A command from its word and what stands behind it.
 ghost use Rattle.std.specs.Prelude.{◌≡◌};
-ghost use Rattle.verbs.specs.Commands.{asked, wrong_at, closed, opened, label_asked, lock_asked, last_from, read_to, read_asked, status_to, status_asked};
+ghost use Rattle.verbs.specs.Commands.{asks, closed, opened, label_asked, lock_asked, last_from, read_to, read_asked, status_to, status_asked};
 ghost use Rattle.verbs.specs.Commands.{tail_asked, block_of, block_asked, field_of, field_asked};
 ghost use Rattle.verbs.specs.Commands.{chip_asked, select_asked, counted_by, counted_asked, inventory_end, mask_of, mask_asked, family_of, family_asked};
 ghost use Rattle.verbs.specs.Commands.{inventory_asked, verb_asked, line_asked};
 
-use crate::pieces::{ByteFound, byte_from, mask_from, next_is, number_from, target_from};
-use crate::tokens::{is_empty, text_of, word_from};
+use crate::pieces::{Aim, Found, Mask};
+use crate::tokens::Rest;
 use crate::trouble::{Trouble, What, expected};
 use crate::verb::{Counted, Tail, Verb, verb_of};
 use reader::command::{ChipTask, Command};
 use request::label::{Family, Params, Target};
 use request::table::Task;
 
-#[derive(Clone, Copy)]
-pub enum Says {
-    Ask(Command),
-    Wrong(Trouble),
-}
-
-// What a line asks: the UID of its target stands beside the command, and the bytes that it sends start at a place of the line, which is the line's end
-// where it sends none.
+// What a line asks: a command, the UID of its target, and the place of the line where the bytes that it sends start, which is the line's end where it
+// sends none.
 #[derive(Clone, Copy)]
 pub struct Asked {
-    pub says: Says,
+    pub command: Command,
     pub uid: [u8; 8],
     pub at: usize,
 }
 
-fn ask(c: Command, uid: [u8; 8], at: usize) -> Asked
-    ensures { result ≡ asked c uid at }
-{
-    Asked {
-        says: Says::Ask(c),
-        uid: uid,
-        at: at,
-    }
-}
-
-fn wrong(at: usize, what: What) -> Asked
-    ensures { result ≡ wrong_at at what }
-{
-    Asked {
-        says: Says::Wrong(expected(at, what)),
-        uid: [0u8; 8],
-        at: 0,
+impl Aim {
+    // A task for this target, with Option or without.
+    #[tactic(auto, unfolding(crate::specs::Commands::asks))]
+    fn asks(self, option: bool, task: Task, first: u8, second: u8) -> Command
+        ensures { result ≡ asks self option task first second }
+    {
+        Command::Label(self.to, option, task, Params { first, second })
     }
 }
 
 // A command at whose end a line must end.
-fn close(line: &[u8], at: usize, what: What, c: Command, uid: [u8; 8]) -> Asked
-    ensures { result ≡ closed line.now at what c uid }
+#[tactic(auto, unfolding(crate::specs::Commands::closed))]
+fn close(rest: Rest, what: What, command: Command, uid: [u8; 8]) -> Result<Asked, Trouble>
+    ensures { result ≡ closed rest.entry.line.now rest.entry.at what command uid }
 {
-    let w = word_from(line, at);
-    if is_empty(w) {
-        return ask(c, uid, line.len());
-    }
-    wrong(w.from, what)
+    rest.ended(what)?;
+    Ok(Asked {
+        command,
+        uid,
+        at: rest.line.len(),
+    })
 }
 
 // A command behind which bytes must stand.
-fn open(line: &[u8], at: usize, c: Command, uid: [u8; 8]) -> Asked
-    ensures { result ≡ opened line.now at c uid }
+#[tactic(auto, unfolding(crate::specs::Commands::opened))]
+fn open(rest: Rest, command: Command, uid: [u8; 8]) -> Result<Asked, Trouble>
+    ensures { result ≡ opened rest.entry.line.now rest.entry.at command uid }
 {
-    let w = word_from(line, at);
-    if is_empty(w) {
-        return wrong(w.from, What::Data);
+    let w = rest.word();
+    if w.is_empty() {
+        return Err(expected(w.from, What::Data));
     }
-    ask(c, uid, w.from)
+    Ok(Asked {
+        command,
+        uid,
+        at: w.from,
+    })
 }
 
 // A task for a target.
-fn label(line: &[u8], at: usize, what: What, task: Task) -> Asked
-    ensures { result ≡ label_asked line.now at what task }
+#[tactic(auto, unfolding(crate::specs::Commands::label_asked))]
+fn label(rest: Rest, what: What, task: Task) -> Result<Asked, Trouble>
+    ensures { result ≡ label_asked rest.entry.line.now rest.entry.at what task }
 {
-    let t = target_from(line, at);
-    let word = t.word;
-    if t.fine {
-        let to = t.to;
-        let uid = t.uid;
-        return close(
-            line,
-            word.to,
-            What::End,
-            Command::Label(
-                to,
-                false,
-                task,
-                Params {
-                    first: 0,
-                    second: 0,
-                },
-            ),
-            uid,
-        );
-    }
-    wrong(word.from, what)
+    let t = rest.target();
+    let aim = t.wanted(what)?;
+    close(
+        rest.behind(t.word),
+        What::End,
+        aim.asks(false, task, 0, 0),
+        aim.uid,
+    )
 }
 
 // `lock` asks for Option; where something else stands, `what` should.
+#[tactic(auto, unfolding(crate::specs::Commands::lock_asked))]
 fn locked(
-    line: &[u8],
-    at: usize,
+    rest: Rest,
     what: What,
     task: Task,
-    to: Target,
-    p: Params,
-    uid: [u8; 8],
-) -> Asked
-    ensures { result ≡ lock_asked line.now at what task to p uid }
+    aim: Aim,
+    first: u8,
+    second: u8,
+) -> Result<Asked, Trouble>
+    ensures { result ≡ lock_asked rest.entry.line.now rest.entry.at what task aim first second }
 {
-    if next_is(line, at, b"lock") {
-        let w = word_from(line, at);
+    if rest.next_is(b"lock") {
         return close(
-            line,
-            w.to,
+            rest.next(),
             What::End,
-            Command::Label(to, true, task, p),
-            uid,
+            aim.asks(true, task, first, second),
+            aim.uid,
         );
     }
-    close(line, at, what, Command::Label(to, false, task, p), uid)
+    close(rest, what, aim.asks(false, task, first, second), aim.uid)
 }
 
 // A last block, no lower than the first: how many there are behind that.
-fn last_from(line: &[u8], at: usize, first: u8) -> ByteFound
-    ensures { result ≡ last_from line.now at first }
+#[tactic(auto, unfolding(crate::specs::Commands::last_from))]
+fn last_from(rest: Rest, first: u8) -> Found<u8>
+    ensures { result ≡ last_from rest.entry.line.now rest.entry.at first }
 {
-    let n = number_from(line, at);
-    let word = n.word;
-    if n.byte < first {
-        return ByteFound {
-            fine: false,
-            byte: 0,
-            word,
-        };
-    }
-    ByteFound {
-        fine: n.fine,
-        byte: n.byte - first,
-        word,
+    let n = rest.number();
+    Found {
+        value: n.value.and_then(|last| last.checked_sub(first)),
+        word: n.word,
     }
 }
 
 // Blocks are read up to a last one.
-fn read_to(line: &[u8], at: usize, to: Target, first: u8, uid: [u8; 8]) -> Asked
-    ensures { result ≡ read_to line.now at to first uid }
+#[tactic(auto, unfolding(crate::specs::Commands::read_to))]
+fn read_to(rest: Rest, aim: Aim, first: u8) -> Result<Asked, Trouble>
+    ensures { result ≡ read_to rest.entry.line.now rest.entry.at aim first }
 {
-    let n = last_from(line, at, first);
-    let word = n.word;
-    if n.fine {
-        let p = Params {
-            first: first,
-            second: n.byte,
-        };
-        return locked(line, word.to, What::LockOrEnd, Task::ReadMany, to, p, uid);
-    }
-    wrong(word.from, What::Last)
-}
-
-// A block is read, or with `to` several.
-fn read(line: &[u8], at: usize, to: Target, first: u8, uid: [u8; 8]) -> Asked
-    ensures { result ≡ read_asked line.now at to first uid }
-{
-    if next_is(line, at, b"to") {
-        let w = word_from(line, at);
-        return read_to(line, w.to, to, first, uid);
-    }
+    let n = last_from(rest, first);
+    let more = n.wanted(What::Last)?;
     locked(
-        line,
-        at,
-        What::ToLockOrEnd,
-        Task::Read,
-        to,
-        Params {
-            first: first,
-            second: 0,
-        },
-        uid,
+        rest.behind(n.word),
+        What::LockOrEnd,
+        Task::ReadMany,
+        aim,
+        first,
+        more,
     )
 }
 
-// The locks of blocks up to a last one.
-fn status_to(line: &[u8], at: usize, to: Target, first: u8, uid: [u8; 8]) -> Asked
-    ensures { result ≡ status_to line.now at to first uid }
+// A block is read, or with `to` several.
+#[tactic(auto, unfolding(crate::specs::Commands::read_asked))]
+fn read(rest: Rest, aim: Aim, first: u8) -> Result<Asked, Trouble>
+    ensures { result ≡ read_asked rest.entry.line.now rest.entry.at aim first }
 {
-    let n = last_from(line, at, first);
-    let word = n.word;
-    if n.fine {
-        let p = Params {
-            first: first,
-            second: n.byte,
-        };
-        return close(
-            line,
-            word.to,
-            What::End,
-            Command::Label(to, false, Task::Status, p),
-            uid,
-        );
+    if rest.next_is(b"to") {
+        return read_to(rest.next(), aim, first);
     }
-    wrong(word.from, What::Last)
+    locked(rest, What::ToLockOrEnd, Task::Read, aim, first, 0)
+}
+
+// The locks of blocks up to a last one.
+#[tactic(auto, unfolding(crate::specs::Commands::status_to))]
+fn status_to(rest: Rest, aim: Aim, first: u8) -> Result<Asked, Trouble>
+    ensures { result ≡ status_to rest.entry.line.now rest.entry.at aim first }
+{
+    let n = last_from(rest, first);
+    let more = n.wanted(What::Last)?;
+    close(
+        rest.behind(n.word),
+        What::End,
+        aim.asks(false, Task::Status, first, more),
+        aim.uid,
+    )
 }
 
 // The lock of a block, or with `to` of several.
-fn status(line: &[u8], at: usize, to: Target, first: u8, uid: [u8; 8]) -> Asked
-    ensures { result ≡ status_asked line.now at to first uid }
+#[tactic(auto, unfolding(crate::specs::Commands::status_asked))]
+fn status(rest: Rest, aim: Aim, first: u8) -> Result<Asked, Trouble>
+    ensures { result ≡ status_asked rest.entry.line.now rest.entry.at aim first }
 {
-    if next_is(line, at, b"to") {
-        let w = word_from(line, at);
-        return status_to(line, w.to, to, first, uid);
+    if rest.next_is(b"to") {
+        return status_to(rest.next(), aim, first);
     }
     close(
-        line,
-        at,
+        rest,
         What::ToOrEnd,
-        Command::Label(
-            to,
-            false,
-            Task::Status,
-            Params {
-                first: first,
-                second: 0,
-            },
-        ),
-        uid,
+        aim.asks(false, Task::Status, first, 0),
+        aim.uid,
     )
 }
 
 // A block's task from behind its number on.
-fn tail(line: &[u8], at: usize, tail: Tail, task: Task, to: Target, n: u8, uid: [u8; 8]) -> Asked
-    ensures { result ≡ tail_asked tail line.now at task to n uid }
+#[tactic(auto, unfolding(crate::specs::Commands::tail_asked))]
+fn tail(rest: Rest, behind: Tail, task: Task, aim: Aim, block: u8) -> Result<Asked, Trouble>
+    ensures { result ≡ tail_asked behind rest.entry.line.now rest.entry.at task aim block }
 {
-    match tail {
-        Tail::Nothing => close(
-            line,
-            at,
-            What::End,
-            Command::Label(
-                to,
-                false,
-                task,
-                Params {
-                    first: n,
-                    second: 0,
-                },
-            ),
-            uid,
-        ),
-        Tail::Read => read(line, at, to, n, uid),
-        Tail::Status => status(line, at, to, n, uid),
-        Tail::Data => open(
-            line,
-            at,
-            Command::Label(
-                to,
-                false,
-                task,
-                Params {
-                    first: n,
-                    second: 0,
-                },
-            ),
-            uid,
-        ),
+    match behind {
+        Tail::Nothing => close(rest, What::End, aim.asks(false, task, block, 0), aim.uid),
+        Tail::Read => read(rest, aim, block),
+        Tail::Status => status(rest, aim, block),
+        Tail::Data => open(rest, aim.asks(false, task, block, 0), aim.uid),
     }
 }
 
-fn block_of(line: &[u8], at: usize, task: Task, behind: Tail, to: Target, uid: [u8; 8]) -> Asked
-    ensures { result ≡ block_of line.now at task behind to uid }
+#[tactic(auto, unfolding(crate::specs::Commands::block_of))]
+fn block_of(rest: Rest, task: Task, behind: Tail, aim: Aim) -> Result<Asked, Trouble>
+    ensures { result ≡ block_of rest.entry.line.now rest.entry.at task behind aim }
 {
-    let n = number_from(line, at);
-    let word = n.word;
-    if n.fine {
-        return tail(line, word.to, behind, task, to, n.byte, uid);
-    }
-    wrong(word.from, What::Number)
+    let n = rest.number();
+    let block = n.wanted(What::Number)?;
+    tail(rest.behind(n.word), behind, task, aim, block)
 }
 
-fn block(line: &[u8], at: usize, task: Task, behind: Tail) -> Asked
-    ensures { result ≡ block_asked line.now at task behind }
+#[tactic(auto, unfolding(crate::specs::Commands::block_asked))]
+fn block(rest: Rest, task: Task, behind: Tail) -> Result<Asked, Trouble>
+    ensures { result ≡ block_asked rest.entry.line.now rest.entry.at task behind }
 {
-    let t = target_from(line, at);
-    let word = t.word;
-    if t.fine {
-        let to = t.to;
-        let uid = t.uid;
-        return block_of(line, word.to, task, behind, to, uid);
-    }
-    wrong(word.from, What::Target)
+    let t = rest.target();
+    let aim = t.wanted(What::Target)?;
+    block_of(rest.behind(t.word), task, behind, aim)
 }
 
-fn field_of(line: &[u8], at: usize, write: Task, lock: Task, to: Target, uid: [u8; 8]) -> Asked
-    ensures { result ≡ field_of line.now at write lock to uid }
+#[tactic(auto, unfolding(crate::specs::Commands::field_of))]
+fn field_of(rest: Rest, write: Task, lock: Task, aim: Aim) -> Result<Asked, Trouble>
+    ensures { result ≡ field_of rest.entry.line.now rest.entry.at write lock aim }
 {
-    let b = byte_from(line, at);
-    let word = b.word;
-    if b.fine {
+    let b = rest.byte();
+    if let Some(byte) = b.value {
         return close(
-            line,
-            word.to,
+            rest.behind(b.word),
             What::End,
-            Command::Label(
-                to,
-                false,
-                write,
-                Params {
-                    first: b.byte,
-                    second: 0,
-                },
-            ),
-            uid,
+            aim.asks(false, write, byte, 0),
+            aim.uid,
         );
     }
-    if next_is(line, at, b"lock") {
+    if rest.next_is(b"lock") {
         return close(
-            line,
-            word.to,
+            rest.behind(b.word),
             What::End,
-            Command::Label(
-                to,
-                false,
-                lock,
-                Params {
-                    first: 0,
-                    second: 0,
-                },
-            ),
-            uid,
+            aim.asks(false, lock, 0, 0),
+            aim.uid,
         );
     }
-    wrong(word.from, What::ByteOrLock)
+    Err(expected(b.word.from, What::ByteOrLock))
 }
 
-fn field(line: &[u8], at: usize, write: Task, lock: Task) -> Asked
-    ensures { result ≡ field_asked line.now at write lock }
+#[tactic(auto, unfolding(crate::specs::Commands::field_asked))]
+fn field(rest: Rest, write: Task, lock: Task) -> Result<Asked, Trouble>
+    ensures { result ≡ field_asked rest.entry.line.now rest.entry.at write lock }
 {
-    let t = target_from(line, at);
-    let word = t.word;
-    if t.fine {
-        let to = t.to;
-        let uid = t.uid;
-        return field_of(line, word.to, write, lock, to, uid);
-    }
-    wrong(word.from, What::Target)
+    let t = rest.target();
+    let aim = t.wanted(What::Target)?;
+    field_of(rest.behind(t.word), write, lock, aim)
 }
 
 // A chip's task, at whose end the line must end.
-fn chip(line: &[u8], at: usize, task: ChipTask) -> Asked
-    ensures { result ≡ chip_asked line.now at task }
+#[tactic(auto, unfolding(crate::specs::Commands::chip_asked))]
+fn chip(rest: Rest, task: ChipTask) -> Result<Asked, Trouble>
+    ensures { result ≡ chip_asked rest.entry.line.now rest.entry.at task }
 {
     close(
-        line,
-        at,
+        rest,
         What::End,
         Command::Chip(Target::Everyone, false, task),
         [0u8; 8],
@@ -360,134 +248,143 @@ fn chip(line: &[u8], at: usize, task: ChipTask) -> Asked
 }
 
 // One byte is a chip's, anything else a label's target.
-fn select(line: &[u8], at: usize) -> Asked
-    ensures { result ≡ select_asked line.now at }
+#[tactic(auto, unfolding(crate::specs::Commands::select_asked))]
+fn select(rest: Rest) -> Result<Asked, Trouble>
+    ensures { result ≡ select_asked rest.entry.line.now rest.entry.at }
 {
-    let b = byte_from(line, at);
-    if b.fine {
-        let word = b.word;
-        return chip(line, word.to, ChipTask::Select(b.byte));
+    let b = rest.byte();
+    match b.value {
+        Some(id) => chip(rest.behind(b.word), ChipTask::Select(id)),
+        None => label(rest, What::Selected, Task::Select),
     }
-    label(line, at, What::Selected, Task::Select)
 }
 
-fn counted(kind: Counted, line: &[u8], at: usize, n: u8) -> Asked
-    ensures { result ≡ counted_by kind line.now at n }
+#[tactic(auto, unfolding(crate::specs::Commands::counted_by))]
+fn counted(kind: Counted, rest: Rest, n: u8) -> Result<Asked, Trouble>
+    ensures { result ≡ counted_by kind rest.entry.line.now rest.entry.at n }
 {
     match kind {
-        Counted::Slot => chip(line, at, ChipTask::Marker(n)),
-        Counted::Get => chip(line, at, ChipTask::Read(n)),
+        Counted::Slot => chip(rest, ChipTask::Marker(n)),
+        Counted::Get => chip(rest, ChipTask::Read(n)),
         Counted::Put => open(
-            line,
-            at,
+            rest,
             Command::Chip(Target::Everyone, false, ChipTask::Write(n)),
             [0u8; 8],
         ),
     }
 }
 
-fn number(line: &[u8], at: usize, kind: Counted) -> Asked
-    ensures { result ≡ counted_asked line.now at kind }
+#[tactic(auto, unfolding(crate::specs::Commands::counted_asked))]
+fn number(rest: Rest, kind: Counted) -> Result<Asked, Trouble>
+    ensures { result ≡ counted_asked rest.entry.line.now rest.entry.at kind }
 {
-    let n = number_from(line, at);
-    let word = n.word;
-    if n.fine {
-        return counted(kind, line, word.to, n.byte);
-    }
-    wrong(word.from, What::Number)
+    let n = rest.number();
+    let count = n.wanted(What::Number)?;
+    counted(kind, rest.behind(n.word), count)
 }
 
+#[tactic(auto, unfolding(crate::specs::Commands::inventory_end))]
 fn inventory_end(
-    line: &[u8],
-    at: usize,
+    rest: Rest,
     what: What,
     family: Family,
     sixteen: bool,
-    bits: u8,
-    mask: u64,
-) -> Asked
-    ensures { result ≡ inventory_end line.now at what family sixteen bits mask }
+    mask: Mask,
+) -> Result<Asked, Trouble>
+    ensures { result ≡ inventory_end rest.entry.line.now rest.entry.at what family sixteen mask }
 {
     close(
-        line,
-        at,
+        rest,
         what,
-        Command::Inventory(Target::Everyone, false, family, sixteen, bits, mask),
+        Command::Inventory(
+            Target::Everyone,
+            false,
+            family,
+            sixteen,
+            mask.bits,
+            mask.number,
+        ),
         [0u8; 8],
     )
 }
 
-fn mask_of(line: &[u8], at: usize, family: Family, sixteen: bool) -> Asked
-    ensures { result ≡ mask_of line.now at family sixteen }
+#[tactic(auto, unfolding(crate::specs::Commands::mask_of))]
+fn mask_of(rest: Rest, family: Family, sixteen: bool) -> Result<Asked, Trouble>
+    ensures { result ≡ mask_of rest.entry.line.now rest.entry.at family sixteen }
 {
-    let m = mask_from(line, at);
-    let word = m.word;
-    if m.fine {
-        return inventory_end(line, word.to, What::End, family, sixteen, m.bits, m.mask);
-    }
-    wrong(word.from, What::Mask)
+    let m = rest.mask();
+    let mask = m.wanted(What::Mask)?;
+    inventory_end(rest.behind(m.word), What::End, family, sixteen, mask)
 }
 
-fn mask(line: &[u8], at: usize, family: Family, sixteen: bool) -> Asked
-    ensures { result ≡ mask_asked line.now at family sixteen }
+#[tactic(auto, unfolding(crate::specs::Commands::mask_asked))]
+fn mask(rest: Rest, family: Family, sixteen: bool) -> Result<Asked, Trouble>
+    ensures { result ≡ mask_asked rest.entry.line.now rest.entry.at family sixteen }
 {
-    if next_is(line, at, b"mask") {
-        let w = word_from(line, at);
-        return mask_of(line, w.to, family, sixteen);
+    if rest.next_is(b"mask") {
+        return mask_of(rest.next(), family, sixteen);
     }
-    inventory_end(line, at, What::Options, family, sixteen, 0, 0)
+    inventory_end(
+        rest,
+        What::Options,
+        family,
+        sixteen,
+        Mask { bits: 0, number: 0 },
+    )
 }
 
-fn family_of(line: &[u8], at: usize, sixteen: bool) -> Asked
-    ensures { result ≡ family_of line.now at sixteen }
+#[tactic(auto, unfolding(crate::specs::Commands::family_of))]
+fn family_of(rest: Rest, sixteen: bool) -> Result<Asked, Trouble>
+    ensures { result ≡ family_of rest.entry.line.now rest.entry.at sixteen }
 {
-    let b = byte_from(line, at);
-    let word = b.word;
-    if b.fine {
-        return mask(line, word.to, Family::Only(b.byte), sixteen);
-    }
-    wrong(word.from, What::Byte)
+    let b = rest.byte();
+    let only = b.wanted(What::Byte)?;
+    mask(rest.behind(b.word), Family::Only(only), sixteen)
 }
 
-fn family(line: &[u8], at: usize, sixteen: bool) -> Asked
-    ensures { result ≡ family_asked line.now at sixteen }
+#[tactic(auto, unfolding(crate::specs::Commands::family_asked))]
+fn family(rest: Rest, sixteen: bool) -> Result<Asked, Trouble>
+    ensures { result ≡ family_asked rest.entry.line.now rest.entry.at sixteen }
 {
-    if next_is(line, at, b"afi") {
-        let w = word_from(line, at);
-        return family_of(line, w.to, sixteen);
+    if rest.next_is(b"afi") {
+        return family_of(rest.next(), sixteen);
     }
-    mask(line, at, Family::Any, sixteen)
+    mask(rest, Family::Any, sixteen)
 }
 
-fn inventory(line: &[u8], at: usize) -> Asked
-    ensures { result ≡ inventory_asked line.now at }
+#[tactic(auto, unfolding(crate::specs::Commands::inventory_asked))]
+fn inventory(rest: Rest) -> Result<Asked, Trouble>
+    ensures { result ≡ inventory_asked rest.entry.line.now rest.entry.at }
 {
-    if next_is(line, at, b"16") {
-        let w = word_from(line, at);
-        return family(line, w.to, true);
+    if rest.next_is(b"16") {
+        return family(rest.next(), true);
     }
-    family(line, at, false)
+    family(rest, false)
 }
 
-fn verb_asked(verb: Verb, line: &[u8], from: usize, at: usize) -> Asked
-    ensures { result ≡ verb_asked verb line.now from at }
+// What stands behind a verb, whose word starts at a place.
+#[tactic(auto, unfolding(crate::specs::Commands::verb_asked))]
+fn verb_asked(verb: Verb, from: usize, rest: Rest) -> Result<Asked, Trouble>
+    ensures { result ≡ verb_asked verb rest.entry.line.now from rest.entry.at }
 {
     match verb {
-        Verb::Inventory => inventory(line, at),
-        Verb::Chip(task) => chip(line, at, task),
-        Verb::Number(kind) => number(line, at, kind),
-        Verb::Select => select(line, at),
-        Verb::Label(task) => label(line, at, What::Target, task),
-        Verb::Block(task, behind) => block(line, at, task, behind),
-        Verb::Field(write, lock) => field(line, at, write, lock),
-        Verb::Unknown => wrong(from, What::Event),
+        Verb::Inventory => inventory(rest),
+        Verb::Chip(task) => chip(rest, task),
+        Verb::Number(kind) => number(rest, kind),
+        Verb::Select => select(rest),
+        Verb::Label(task) => label(rest, What::Target, task),
+        Verb::Block(task, behind) => block(rest, task, behind),
+        Verb::Field(write, lock) => field(rest, write, lock),
+        Verb::Unknown => Err(expected(from, What::Event)),
     }
 }
 
 // What a line asks by its first word and what stands behind it.
-pub fn asked_in(line: &[u8]) -> Asked
+#[tactic(auto, unfolding(crate::specs::Commands::line_asked))]
+pub fn asked_in(line: &[u8]) -> Result<Asked, Trouble>
     ensures { result ≡ line_asked line.now }
 {
-    let w = word_from(line, 0);
-    verb_asked(verb_of(text_of(line, w)), line, w.from, w.to)
+    let rest = Rest { line, at: 0 };
+    let w = rest.word();
+    verb_asked(verb_of(rest.text(w)), w.from, rest.behind(w))
 }

@@ -1,158 +1,156 @@
 // The pieces of a command: the next word of a line as a target, a byte, a number or a mask.
 ghost use Rattle.std.specs.Prelude.{◌≡◌};
-ghost use Rattle.verbs.specs.Pieces.{next_is, found_by, byte_from, number_from, one_by, target_in, target_from, mask_by, mask_in, mask_from};
+ghost use Rattle.verbs.specs.Pieces.{wanted, next_is, byte_from, number_from, target_in, target_from, mask_in, mask_from, ended};
 
-use crate::tokens::{
-    ByteRead, HighRead, Span, byte_in, find, high_in, number_in, text_of, word_from,
-};
+use crate::tokens::{Rest, Span, byte_in, find, high_in, number_in, text_of};
+use crate::trouble::{Trouble, What, expected};
 use frame::uid::uid_number;
 use request::label::Target;
 use text::words::same_word;
 
-// Each piece has its word; what it says counts where it is fine.
+// What the next word says, if it says such a thing, and the word.
 #[derive(Clone, Copy)]
-pub struct ByteFound {
-    pub fine: bool,
-    pub byte: u8,
+pub struct Found<T> {
+    pub value: Option<T>,
     pub word: Span,
 }
 
+// Who a request is for; the UID counts where it is one.
 #[derive(Clone, Copy)]
-pub struct TargetFound {
-    pub fine: bool,
+pub struct Aim {
     pub to: Target,
     pub uid: [u8; 8],
-    pub word: Span,
 }
 
+// An Inventory's mask: how many bits it has, and they as a number.
 #[derive(Clone, Copy)]
-pub struct MaskFound {
-    pub fine: bool,
+pub struct Mask {
     pub bits: u8,
-    pub mask: u64,
-    pub word: Span,
+    pub number: u64,
 }
 
-// Whether the next word from a place on is a given one.
-pub fn next_is(line: &[u8], at: usize, word: &[u8]) -> bool
-    ensures { result ≡ next_is line.now at word.now }
-{
-    let w = word_from(line, at);
-    same_word(text_of(line, w), word)
-}
-
-fn found(r: ByteRead, w: Span) -> ByteFound
-    ensures { result ≡ found_by r w }
-{
-    match r {
-        ByteRead::Byte(b) => ByteFound {
-            fine: true,
-            byte: b,
-            word: w,
-        },
-        ByteRead::Other => ByteFound {
-            fine: false,
-            byte: 0,
-            word: w,
-        },
+impl<T: Copy> Found<T> {
+    // What was found, or what should have stood there.
+    #[tactic(auto, unfolding(crate::specs::Pieces::wanted))]
+    pub fn wanted(self, what: What) -> Result<T, Trouble>
+        ensures { result ≡ wanted self what }
+    {
+        self.value.ok_or(expected(self.word.from, what))
     }
 }
 
-pub fn byte_from(line: &[u8], at: usize) -> ByteFound
-    ensures { result ≡ byte_from line.now at }
-{
-    let w = word_from(line, at);
-    found(byte_in(text_of(line, w)), w)
-}
-
-pub fn number_from(line: &[u8], at: usize) -> ByteFound
-    ensures { result ≡ number_from line.now at }
-{
-    let w = word_from(line, at);
-    found(number_in(text_of(line, w)), w)
-}
-
-// One UID: eight bytes in hex.
-fn one(h: HighRead, w: Span) -> TargetFound
-    ensures { result ≡ one_by h w }
-{
-    let low = h.low;
-    TargetFound {
-        fine: h.count == 8,
-        to: Target::One,
-        uid: low,
-        word: w,
-    }
-}
-
-fn target_in(text: &[u8], w: Span) -> TargetFound
-    ensures { result ≡ target_in text.now w }
+#[tactic(auto, unfolding(crate::specs::Pieces::target_in))]
+fn target_in(text: &[u8]) -> Option<Aim>
+    ensures { result ≡ target_in text.now }
 {
     if same_word(text, b"all") {
-        return TargetFound {
-            fine: true,
+        return Some(Aim {
             to: Target::Everyone,
             uid: [0u8; 8],
-            word: w,
-        };
+        });
     }
     if same_word(text, b"selected") {
-        return TargetFound {
-            fine: true,
+        return Some(Aim {
             to: Target::Selected,
             uid: [0u8; 8],
-            word: w,
-        };
+        });
     }
-    one(high_in(text), w)
-}
-
-pub fn target_from(line: &[u8], at: usize) -> TargetFound
-    ensures { result ≡ target_from line.now at }
-{
-    let w = word_from(line, at);
-    target_in(text_of(line, w), w)
-}
-
-fn mask_by(bits: ByteRead, h: HighRead, w: Span) -> MaskFound
-    ensures { result ≡ mask_by bits h w }
-{
-    let low = h.low;
-    match bits {
-        ByteRead::Byte(b) => MaskFound {
-            fine: h.count != 0,
-            bits: b,
-            mask: uid_number(low),
-            word: w,
-        },
-        ByteRead::Other => MaskFound {
-            fine: false,
-            bits: 0,
-            mask: 0,
-            word: w,
-        },
+    let high = high_in(text)?;
+    if high.count != 8 {
+        return None;
     }
+    let uid = high.low;
+    Some(Aim {
+        to: Target::One,
+        uid,
+    })
 }
 
 // Its length in decimal, a slash, and its bytes in hex, the high one first.
-fn mask_in(text: &[u8], w: Span) -> MaskFound
-    ensures { result ≡ mask_in text.now w }
+#[tactic(auto, unfolding(crate::specs::Pieces::mask_in))]
+fn mask_in(text: &[u8]) -> Option<Mask>
+    ensures { result ≡ mask_in text.now }
 {
-    let at = find(text, 0, b'/');
-    let bits = number_in(text_of(text, Span { from: 0, to: at }));
-    let h = high_in(text_of(
+    let slash = find(text, 0, b'/');
+    let bits = number_in(text_of(text, Span { from: 0, to: slash }))?;
+    let high = high_in(text_of(
         text,
         Span {
-            from: std::num::wrapping_add_usize(at, 1),
+            from: std::num::wrapping_add_usize(slash, 1),
             to: text.len(),
         },
-    ));
-    mask_by(bits, h, w)
+    ))?;
+    if high.count == 0 {
+        return None;
+    }
+    Some(Mask {
+        bits,
+        number: uid_number(high.low),
+    })
 }
 
-pub fn mask_from(line: &[u8], at: usize) -> MaskFound
-    ensures { result ≡ mask_from line.now at }
-{
-    let w = word_from(line, at);
-    mask_in(text_of(line, w), w)
+impl Rest<'_> {
+    // Whether the next word is a given one.
+    #[tactic(auto, unfolding(crate::specs::Pieces::next_is))]
+    pub fn next_is(self, word: &[u8]) -> bool
+        ensures { result ≡ next_is self.entry.line.now self.entry.at word.now }
+    {
+        same_word(self.text(self.word()), word)
+    }
+
+    // Nothing may stand here; where something does, `what` should.
+    #[tactic(auto, unfolding(crate::specs::Pieces::ended))]
+    pub fn ended(self, what: What) -> Result<(), Trouble>
+        ensures { result ≡ ended self.entry.line.now self.entry.at what }
+    {
+        let w = self.word();
+        if w.is_empty() {
+            return Ok(());
+        }
+        Err(expected(w.from, what))
+    }
+
+    #[tactic(auto, unfolding(crate::specs::Pieces::byte_from))]
+    pub fn byte(self) -> Found<u8>
+        ensures { result ≡ byte_from self.entry.line.now self.entry.at }
+    {
+        let word = self.word();
+        Found {
+            value: byte_in(self.text(word)),
+            word,
+        }
+    }
+
+    #[tactic(auto, unfolding(crate::specs::Pieces::number_from))]
+    pub fn number(self) -> Found<u8>
+        ensures { result ≡ number_from self.entry.line.now self.entry.at }
+    {
+        let word = self.word();
+        Found {
+            value: number_in(self.text(word)),
+            word,
+        }
+    }
+
+    #[tactic(auto, unfolding(crate::specs::Pieces::target_from))]
+    pub fn target(self) -> Found<Aim>
+        ensures { result ≡ target_from self.entry.line.now self.entry.at }
+    {
+        let word = self.word();
+        Found {
+            value: target_in(self.text(word)),
+            word,
+        }
+    }
+
+    #[tactic(auto, unfolding(crate::specs::Pieces::mask_from))]
+    pub fn mask(self) -> Found<Mask>
+        ensures { result ≡ mask_from self.entry.line.now self.entry.at }
+    {
+        let word = self.word();
+        Found {
+            value: mask_in(self.text(word)),
+            word,
+        }
+    }
 }

@@ -1,9 +1,9 @@
 // What is wrong with a line, and its text.
 ghost use Rattle.std.specs.Prelude.{◌≡◌};
-ghost use Rattle.print.specs.Puts.{Puts};
-ghost use Rattle.verbs.specs.Trouble.{column_of, what_text, expected_text, trouble_text};
+ghost use Rattle.print.specs.Line.{laid};
+ghost use Rattle.verbs.specs.Trouble.{column_of, no, what_text, expected_text, trouble_text};
 
-use print::put::{put_decimal, put_text};
+use print::line::Line;
 
 // What should stand at a place.
 #[derive(Clone, Copy)]
@@ -38,6 +38,7 @@ pub enum Trouble {
 }
 
 // The column of a place. Numbers wrap, past any line's end.
+#[tactic(auto, unfolding(crate::specs::Trouble::column_of))]
 pub fn column(at: usize) -> u64
     ensures { result ≡ column_of at }
 {
@@ -45,54 +46,55 @@ pub fn column(at: usize) -> u64
 }
 
 pub fn expected(at: usize, what: What) -> Trouble
-    ensures { result ≡ Trouble.Expected (column_of at) what }
+    ensures { result ≡ no at what }
 {
     Trouble::Expected(column(at), what)
 }
 
-fn put_field(out: &mut [u8], at: usize, what: What) -> usize
-    ensures { Puts (what_text what) at out.old out.new result }
-{
-    match what {
-        What::Event => put_text(out, at, b"an event or a command"),
-        What::Target => put_text(out, at, b"a UID of 16 hex digits, all or selected"),
-        What::Selected => put_text(
-            out,
-            at,
-            b"a Chip_ID of 2 hex digits, a UID of 16, all or selected",
-        ),
-        What::Number => put_text(out, at, b"a number of 0 to 255"),
-        What::Byte => put_text(out, at, b"a byte of 2 hex digits"),
-        What::ByteOrLock => put_text(out, at, b"a byte of 2 hex digits or lock"),
-        What::LockOrEnd => put_text(out, at, b"lock or the end of the line"),
-        What::ToLockOrEnd => put_text(out, at, b"to, lock or the end of the line"),
-        What::ToOrEnd => put_text(out, at, b"to or the end of the line"),
-        What::Last => put_text(out, at, b"a last block, no lower than the first"),
-        What::Options => put_text(out, at, b"16, afi, mask or the end of the line"),
-        What::Mask => put_text(out, at, b"a mask as BITS/HEX"),
-        What::Data => put_text(out, at, b"hex digits or \"text\""),
-        What::Digit => put_text(out, at, b"a hex digit"),
-        What::Pair => put_text(out, at, b"two hex digits"),
-        What::Quote => put_text(out, at, b"a closing \""),
-        What::End => put_text(out, at, b"the end of the line"),
+impl What {
+    #[tactic(auto, unfolding(crate::specs::Trouble::what_text))]
+    fn text(self) -> &'static [u8]
+        ensures { result.now ≡ what_text self }
+    {
+        match self {
+            What::Event => b"an event or a command",
+            What::Target => b"a UID of 16 hex digits, all or selected",
+            What::Selected => b"a Chip_ID of 2 hex digits, a UID of 16, all or selected",
+            What::Number => b"a number of 0 to 255",
+            What::Byte => b"a byte of 2 hex digits",
+            What::ByteOrLock => b"a byte of 2 hex digits or lock",
+            What::LockOrEnd => b"lock or the end of the line",
+            What::ToLockOrEnd => b"to, lock or the end of the line",
+            What::ToOrEnd => b"to or the end of the line",
+            What::Last => b"a last block, no lower than the first",
+            What::Options => b"16, afi, mask or the end of the line",
+            What::Mask => b"a mask as BITS/HEX",
+            What::Data => b"hex digits or \"text\"",
+            What::Digit => b"a hex digit",
+            What::Pair => b"two hex digits",
+            What::Quote => b"a closing \"",
+            What::End => b"the end of the line",
+        }
     }
 }
 
-fn put_expected(out: &mut [u8], at: usize, column: u64, what: What) -> usize
-    ensures { Puts (expected_text column what) at out.old out.new result }
+#[tactic(auto, using(print::proofs::Lines::lines), unfolding(crate::specs::Trouble::expected_text))]
+fn put_expected<const N: usize>(line: &mut Line<N>, column: u64, what: What)
+    ensures { line.new ≡ laid N line.old (expected_text column what) }
 {
-    let a = put_text(out, at, b"column ");
-    let b = put_decimal(out, a, column);
-    let c = put_text(out, b, b": expected ");
-    put_field(out, c, what)
+    line.put(b"column ");
+    line.decimal(column);
+    line.put(b": expected ");
+    line.put(what.text());
 }
 
-pub fn put_trouble(out: &mut [u8], at: usize, trouble: Trouble) -> usize
-    ensures { Puts (trouble_text trouble) at out.old out.new result }
+#[tactic(auto, unfolding(crate::specs::Trouble::trouble_text))]
+pub fn put_trouble<const N: usize>(line: &mut Line<N>, trouble: Trouble)
+    ensures { line.new ≡ laid N line.old (trouble_text trouble) }
 {
     match trouble {
-        Trouble::Expected(column, what) => put_expected(out, at, column, what),
-        Trouble::NoRequest => put_text(out, at, b"no request has these fields"),
-        Trouble::Full => put_text(out, at, b"too many bytes"),
+        Trouble::Expected(column, what) => put_expected(line, column, what),
+        Trouble::NoRequest => line.put(b"no request has these fields"),
+        Trouble::Full => line.put(b"too many bytes"),
     }
 }

@@ -1,4 +1,4 @@
-// The words of commands.
+// The words of commands. Letters may be of either case, so the words are tested one by one: a `match` takes them only as they are written.
 ghost use Rattle.std.specs.Prelude.{◌≡◌};
 ghost use Rattle.verbs.specs.Verb.{chip_verb, piece_verb, label_verb, verb_of};
 
@@ -6,7 +6,7 @@ use reader::command::ChipTask;
 use request::table::Task;
 use text::words::same_word;
 
-// What may follow a block's number.
+// What may follow a block's number. A value and no closure, as all that a word says here: `verb_of` is proved to give it, and a closure has no name there.
 #[derive(Clone, Copy)]
 pub enum Tail {
     Nothing,
@@ -46,6 +46,7 @@ pub enum Verb {
     Unknown,
 }
 
+#[tactic(auto, using(frame::proofs::Tests::ladder), unfolding(crate::specs::Verb::chip_verb))]
 fn chip_verb(word: &[u8]) -> Verb
     ensures { result ≡ chip_verb word.now }
 {
@@ -67,6 +68,7 @@ fn chip_verb(word: &[u8]) -> Verb
     Verb::Unknown
 }
 
+#[tactic(auto, using(frame::proofs::Tests::ladder), unfolding(crate::specs::Verb::piece_verb))]
 fn piece_verb(word: &[u8]) -> Verb
     ensures { result ≡ piece_verb word.now }
 {
@@ -88,6 +90,7 @@ fn piece_verb(word: &[u8]) -> Verb
     chip_verb(word)
 }
 
+#[tactic(auto, using(frame::proofs::Tests::ladder), unfolding(crate::specs::Verb::label_verb))]
 fn label_verb(word: &[u8]) -> Verb
     ensures { result ≡ label_verb word.now }
 {
@@ -106,6 +109,7 @@ fn label_verb(word: &[u8]) -> Verb
     piece_verb(word)
 }
 
+#[tactic(auto, using(frame::proofs::Tests::ladder), unfolding(crate::specs::Verb::verb_of))]
 pub fn verb_of(word: &[u8]) -> Verb
     ensures { result ≡ verb_of word.now }
 {

@@ -1,22 +1,15 @@
 -- By what was read. Assumes nothing.
-use Rattle.script.proofs.LinesCommands.{from_got, from_wrong}
-use Rattle.verbs.proofs.DataHeld.{data_inside}
-use borrow.Author.Rules.{rules}
+use Rattle.std.proofs.lemmas.Result.{err_from_is_err_and}
+use Rattle.script.proofs.LinesCommands.{from_ok, from_err}
 use Rattle.script.proofs.commands.send_from.Goals as goal
 
-pub returns-in-Got : goal.returns-in-Got
-returns-in-Got c =
+pub returns-in_err-n : goal.returns-in_err-n
+returns-in_err-n c =
     let a = c.args in
-    from_got a.c a.uid a.line.now a.at a.«data».now a.bytes.now c.data_from-read.ensures _
-    c.in-Got.is
-    c.send.ensures
+    let p = err_from_is_err_and c.from_residual.result c.from_residual.ensures.1 in
+    rw (p.1, p.2) (from_err a.asked a.line.now a.«data».now a.bytes.now c.bytes.ensures.said _ c.in_err-n.was)
 
-pub returns-in-Wrong : goal.returns-in-Wrong
-returns-in-Wrong c =
+pub returns : goal.returns
+returns c =
     let a = c.args in
-    from_wrong a.c a.uid a.line.now a.at a.«data».now a.bytes.now c.data_from-read.ensures _ c.in-Wrong.is
-
-pub slice_bounds-send-end : goal.slice_bounds-send-end
-slice_bounds-send-end c =
-    let a = c.args in
-    let h = data_inside a.line.now a.at a.«data».now c.data_from-read.ensures _ c.in-Got.is in search rules
+    from_ok a.asked a.line.now a.«data».now a.bytes.now c.bytes.ensures.said _ c.in_ok-n.was c.send.ensures

@@ -5,6 +5,7 @@ use Rattle.text.proofs.WordsFirst.{word_inside}
 use Rattle.text.specs.declared.words.Keyword.TheVariants as w
 use lib.ListN.{length}
 use mathlib.Core.Path.{refl}
+use mathlib.Core.Logic.{⊎_elim}
 use Rattle.script.proofs.lines.action_of.Goals as goal
 
 pub framed-requires : goal.framed-requires
@@ -35,13 +36,11 @@ drawn_or_random-requires c =
 pub returns-in-Empty : goal.returns-in-Empty
 returns-in-Empty c =
     let a = c.args in
-    let r = line_asks a.line.now a.draws.now a.bytes.now c.first_word-first.ensures w.Empty c.in-Empty.is refl refl refl in
-    record { value = r.0; draws_after = r.1.0; bytes_after = r.1.1 }
-
-pub returns-in-Comment : goal.returns-in-Comment
-returns-in-Comment c =
-    let a = c.args in
-    let r = line_asks a.line.now a.draws.now a.bytes.now c.first_word-first.ensures w.Comment c.in-Comment.is refl refl refl in
+    let e = c.first_word-first.ensures in
+    let r =
+    ⊎_elim (λ h. line_asks a.line.now a.draws.now a.bytes.now e w.Empty h refl refl refl)
+    (λ h. line_asks a.line.now a.draws.now a.bytes.now e w.Comment h refl refl refl)
+    c.in-Empty.is in
     record { value = r.0; draws_after = r.1.0; bytes_after = r.1.1 }
 
 pub returns-in-Off : goal.returns-in-Off

@@ -1,7 +1,5 @@
 -- What was read is within the buffer, which keeps its length; each turn reads something. Assumes nothing.
-use lib.ListN.{length}
-use mathlib.Core.Path.{◌≡◌}
-use Prim.Native.Nat.{◌≤◌, ◌-◌}
+use Rattle.std.proofs.Common.{length, ◌≡◌, ◌≤◌, ◌-◌}
 use Rattle.text.proofs.file.read_all.Given as goal
 
 abbrev pub invariant-loop-n : goal.invariant-loop-n

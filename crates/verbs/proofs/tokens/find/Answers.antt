@@ -1,19 +1,25 @@
-use Rattle.std.proofs.Common.{not, refl, ap, eq-eqb, ne_eqb}
-use Rattle.text.proofs.WordsLead.{lead_none, lead_stop, lead_go}
-use Rattle.verbs.specs.Tokens.{another, find_in}
+-- What `position` finds is where the lead ends. Assumes nothing.
+use Rattle.std.proofs.Common.{◌≡◌, tests, rules, arith, sym, ◌∙◌}
+use Rattle.std.proofs.lemmas.Iterator.{IsFirst-from_position, YieldsList-from_slice}
+use Rattle.text.specs.Words.{lead}
+use Rattle.verbs.specs.Tokens.{another}
+use Rattle.verbs.proofs.TokensWords.{lead_first, find_is, find_fits}
 use Rattle.verbs.proofs.tokens.find.Goals as goal
 
-pub returns-then-s-i : goal.returns-then-s-i
-unfolding find_in
-returns-then-s-i c = lead_stop (another _) _ _ _ c.loop-i.invariant c.loop-i-test.true (ap not (eq-eqb _ _ c.if-s-i.true))
+found : (c : goal.After-unwrap_or) → lead (another c.args.b) c.rest_of-rest.result.now ≡ c.unwrap_or.result
+found c =
+    lead_first _ _ _
+    (IsFirst-from_position _ _ _ (λ x. x ≡ c.args.b) (λ x. x ≡ c.args.b → ⊥) c.position.ensures.ran (YieldsList-from_slice _ c.iter.ensures.rest) (λ x q k.
+    search (rules, tests)) (λ x q k. search (rules, tests)))
+    ∙ sym c.unwrap_or.ensures
 
-pub loop-i-preserved : goal.loop-i-preserved
-loop-i-preserved c = lead_go (another _) _ _ _ c.loop-i.invariant c.loop-i-test.true (ap not (ne_eqb _ _ c.if-s-i.false))
+pub overflow_add-result : goal.overflow_add-result
+overflow_add-result c =
+    let e = rw c.rest_of-rest.ensures at (found c) in
+    let h = find_fits _ _ _ e in
+    omega arith
 
 pub returns : goal.returns
-unfolding find_in
-returns c = lead_none (another _) _ _ _ c.loop-i.invariant c.loop-i-test.false
-
-pub loop-i-init : goal.loop-i-init
-loop-i-init c =
-    refl
+returns c =
+    let e = rw c.rest_of-rest.ensures at (found c) in
+    find_is _ _ _ e
