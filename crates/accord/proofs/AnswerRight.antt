@@ -2,7 +2,7 @@
 -- Assumes nothing.
 use Rattle.std.specs.Prelude.{if◌then◌else◌}
 use mathlib.Core.Path.{◌≡◌, refl, ap, ◌∙◌}
-use mathlib.Core.Bool.{Bool, true, false, not}
+use mathlib.Core.Bool.{Bool, true, false, not, ◌&&◌}
 use mathlib.Core.List.{List}
 use Prim.Native.Nat.{ℕ}
 use native.Mathlib.Omega.{arith}
@@ -10,6 +10,7 @@ use lib.Dec.{ltb}
 use lib.ListN.{length}
 use Rattle.frame.specs.Number.{Bytes}
 use Rattle.frame.specs.CheckSum.{right, content, framed}
+use Rattle.frame.proofs.Bools.{and_both}
 use Rattle.frame.proofs.CheckSumFrames.{right_framed}
 use Rattle.reader.specs.declared.command.Command.{Command}
 use Rattle.reader.specs.Command.{valid}
@@ -27,6 +28,10 @@ as_read r s e h = ap (λ (x : Reading). number_of x.meaning) e ∙ h
 pub fits_true : (x : Bool) (r : Reading) → NoRefusal (fits x r) → x ≡ true
 fits_true true r h = refl
 fits_true false r h = absurd (omega arith)
+
+-- .. both of two tests
+pub fits_both : (x y : Bool) (r : Reading) → NoRefusal (fits (x && y) r) → (x ≡ true) × (y ≡ true)
+fits_both x y r h = and_both x y (fits_true (x && y) r h)
 
 -- what holds of a refusal and of the reading holds where the test decides
 pub fits_either : (P : Reading → Type 0) (x : Bool) (r : Reading) → P (said (m.Refused 9)) → P r → P (fits x r)

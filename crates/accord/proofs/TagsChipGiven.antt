@@ -3,7 +3,7 @@
 -- Assumes nothing.
 use Rattle.std.specs.Prelude.{if◌then◌else◌}
 use mathlib.Core.Path.{◌≡◌, refl, sym, ap, subst, ◌∙◌}
-use mathlib.Core.Bool.{Bool, true, false, not, ◌&&◌, ◌||◌}
+use mathlib.Core.Bool.{Bool, true, false, not, ◌||◌}
 use mathlib.Core.List.{List, [], ◌∷◌, ◌++◌}
 use Prim.Native.Nat.{ℕ, ◌+◌, ◌-◌, ◌*◌, ◌/◌, ◌%◌, ◌<◌}
 use native.Mathlib.Omega.{arith}
@@ -14,7 +14,7 @@ use Rattle.frame.specs.Choose.{gather}
 use Rattle.frame.specs.Number.{part, Bytes}
 use Rattle.frame.specs.CheckSum.{content, framed}
 use Rattle.frame.specs.Judge.{fine}
-use Rattle.frame.proofs.Bools.{and_both, if_true, if_false}
+use Rattle.frame.proofs.Bools.{if_true, if_false}
 use Rattle.frame.proofs.Lists.{window, window_all}
 use Rattle.frame.proofs.Stores.{bytes_cons}
 use Rattle.frame.proofs.Numbers.{bytes_append, bytes_take}
@@ -37,7 +37,7 @@ use Rattle.reader.proofs.CommandValid.{valid_chip, read_listed}
 use Rattle.answer.specs.Answer.{chip_reading, shape_of, reading_of}
 use Rattle.accord.specs.Tags.{ChipGives}
 use Rattle.accord.proofs.RequestMeant.{chip_is_meant}
-use Rattle.accord.proofs.AnswerRight.{NoRefusal, fits_true, told_right}
+use Rattle.accord.proofs.AnswerRight.{NoRefusal, fits_true, fits_both, told_right}
 use Rattle.accord.proofs.TagsMade.{bytes_none, bytes_same, gathered_part}
 
 -- every block s; UID, state and Chip_ID
@@ -179,15 +179,15 @@ module _ (to : Target) (option : Bool) (uid d : List ℕ) where
       let n = eqb-true (length s) 1 (fits_true (eqb (length s) 1) _ h) in
       inventory_given p.Initiate s 0 (get_or s 0 0) v (lit< tt) (bs 0) n (initiate_said zeros zeros 0 (get_or s 0 0) d)
   task_given p.Pcall s v bs h =
-      let e = and_both (eqb (length s) 1) (eqb (get_or s 0 0 % 16) 0) (fits_true (eqb (length s) 1 && eqb (get_or s 0 0 % 16) 0) _ h) in
+      let e = fits_both (eqb (length s) 1) (eqb (get_or s 0 0 % 16) 0) _ h in
       inventory_given p.Pcall s (get_or s 0 0) 0 v (bs 0) (lit< tt) (eqb-true (length s) 1 e.0)
       (pcall_said zeros zeros (get_or s 0 0) d (eqb-true (get_or s 0 0 % 16) 0 e.1))
   task_given (p.Marker n) s v bs h =
-      let e = and_both (eqb (length s) 1) (eqb (get_or s 0 0 % 16) n) (fits_true (eqb (length s) 1 && eqb (get_or s 0 0 % 16) n) _ h) in
+      let e = fits_both (eqb (length s) 1) (eqb (get_or s 0 0 % 16) n) _ h in
       inventory_given (p.Marker n) s (get_or s 0 0) 0 v (bs 0) (lit< tt) (eqb-true (length s) 1 e.0)
       (marker_said zeros zeros (get_or s 0 0) n 0 d (eqb-true (get_or s 0 0 % 16) n e.1))
   task_given (p.Select id) s v bs h =
-      let e = and_both (eqb (length s) 1) (eqb (get_or s 0 0) id) (fits_true (eqb (length s) 1 && eqb (get_or s 0 0) id) _ h) in
+      let e = fits_both (eqb (length s) 1) (eqb (get_or s 0 0) id) _ h in
       let i : get_or s 0 0 ≡ id = eqb-true (get_or s 0 0) id e.1 in
       selected_given (p.Select id) zeros zeros s id (a.Id id) v bytes_4 bytes_8 (subst (λ (x : ℕ). x < 256) i (bs 0)) (select_said zeros zeros id 0 d) refl
       (id_frame id (chip_made zeros zeros 3 id) ∙ ap framed (ap (λ (x : ℕ). x ∷ []) (sym i) ∙ one_byte s (eqb-true (length s) 1 e.0)))

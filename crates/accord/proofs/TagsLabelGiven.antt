@@ -55,7 +55,7 @@ use Rattle.answer.specs.Answer.{said, is_error, done_of, owned, info_of, success
 use Rattle.accord.specs.Tags.{LabelGives, SlotGives, after}
 use Rattle.accord.proofs.RequestMeant.{label_is_meant, data_meant, inventory_meant}
 use Rattle.accord.proofs.AnswerRead.{held}
-use Rattle.accord.proofs.AnswerRight.{NoRefusal, fits_true, told_right}
+use Rattle.accord.proofs.AnswerRight.{NoRefusal, fits_both, told_right}
 use Rattle.accord.proofs.TagsLabelRead.{after_slot}
 use Rattle.accord.proofs.TagsMade.{bytes_same, made, Body, made_body}
 use Rattle.accord.proofs.TagsShapes.{tell_block, tell_lock, Shape, block_shape, blocks_shape, locks_shape}
@@ -119,7 +119,7 @@ own_uid One uid = eq-eqb (num uid) (num uid) refl
 zero_alone : (s : List ℕ) → NoRefusal (done_of s) → s ≡ 0 ∷ []
 unfolding done_of
 zero_alone s h =
-    let e = and_both (eqb (length s) 1) (eqb (get_or s 0 0) 0) (fits_true (eqb (length s) 1 && eqb (get_or s 0 0) 0) (said m.Done) h) in
+    let e = fits_both (eqb (length s) 1) (eqb (get_or s 0 0) 0) (said m.Done) h in
     sym (window_all 1 s (eqb-true (length s) 1 e.0)) ∙ ap (λ (x : ℕ). x ∷ []) (eqb-true (get_or s 0 0) 0 e.1)
 
 done_frame : (b : List ℕ) → answer_frame a.Done b ≡ framed (0 ∷ [])
@@ -228,8 +228,7 @@ module _ (to : Target) (option : Bool) (p : Params) (uid d : List ℕ) (hu : len
     unfolding info_of
     info_given s bs z f =
         let own = owned to uid (part 2 8 s) in
-        let e0 = fits_true (eqb (length s) 15 && (eqb (get_or s 0 0) 0 && (eqb (get_or s 1 0) 0x0F && (leb (get_or s 13 0) 31 && own)))) _ z in
-        let e1 = and_both (eqb (length s) 15) (eqb (get_or s 0 0) 0 && (eqb (get_or s 1 0) 0x0F && (leb (get_or s 13 0) 31 && own))) e0 in
+        let e1 = fits_both (eqb (length s) 15) (eqb (get_or s 0 0) 0 && (eqb (get_or s 1 0) 0x0F && (leb (get_or s 13 0) 31 && own))) _ z in
         let e2 = and_both (eqb (get_or s 0 0) 0) (eqb (get_or s 1 0) 0x0F && (leb (get_or s 13 0) 31 && own)) e1.1 in
         let e3 = and_both (eqb (get_or s 1 0) 0x0F) (leb (get_or s 13 0) 31 && own) e2.1 in
         let e4 = and_both (leb (get_or s 13 0) 31) own e3.1 in
@@ -344,8 +343,7 @@ seen : (family : Family) (mask bits : ℕ) (s : List ℕ) → RangedFamily famil
 unfolding found_of takes_part steps.heeds steps.ready label.load_of
 seen family mask bits s r bs h =
     let u = part 2 8 s in
-    let e0 = fits_true (eqb (length s) 10 && (eqb (get_or s 0 0) 0 && ends_in u mask bits)) _ h in
-    let e1 = and_both (eqb (length s) 10) (eqb (get_or s 0 0) 0 && ends_in u mask bits) e0 in
+    let e1 = fits_both (eqb (length s) 10) (eqb (get_or s 0 0) 0 && ends_in u mask bits) _ h in
     let e2 = and_both (eqb (get_or s 0 0) 0) (ends_in u mask bits) e1.1 in
     let hs : length s ≡ 10 = eqb-true (length s) 10 e1.0 in
     let lu : length u ≡ 8 = length-take-le 8 (drop 2 s) (rw (length-drop 2 s) (omega arith)) in

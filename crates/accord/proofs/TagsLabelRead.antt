@@ -14,7 +14,6 @@ use Rattle.frame.specs.Choose.{bit, set?}
 use Rattle.frame.specs.Number.{num, part, Bytes}
 use Rattle.frame.specs.Judge.{fine}
 use Rattle.frame.specs.Ending.{ends_in, ends_in_slot}
-use Rattle.frame.specs.declared.verdict.Verdict.{Verdict}
 use Rattle.frame.proofs.Bools.{and_both, eqb_same, if_either}
 use Rattle.request.specs.Table.{row_of, has_answer}
 use Rattle.request.specs.declared.table.Task.{Task}
@@ -201,7 +200,7 @@ label_bytes command uid n v r e count b ok =
 
 -- a body that keeps to the rules
 fine_body : (b : List ℕ) → Bytes b → label.label_rules b ≡ fine → LabelFine b
-fine_body b bs e = rules_fine b bs (ap (λ (x : Verdict). x.number) e)
+fine_body b bs e = rules_fine b bs e
 
 -- what a well-formed label answers to a label command is read to what it means ..
 pub label_gives : (to : Target) (option : Bool) (task : Task) (p : Params) (uid d g : List ℕ) → valid (c.Label to option task p) (length d) ≡ true

@@ -19,7 +19,7 @@ use Rattle.frame.proofs.Gather.{gather_ext}
 use Rattle.frame.proofs.AllOf.{all_at}
 use Rattle.answer.specs.Answer.{block_of, piece_of, blocks_of, locks_of}
 use Rattle.answer.proofs.AnswerPieces.{lock_at, lock_each, cut, piece, pieces_all, piece_long, piece_first, piece_bytes}
-use Rattle.accord.proofs.AnswerRight.{NoRefusal, fits_true}
+use Rattle.accord.proofs.AnswerRight.{NoRefusal, fits_both}
 use Rattle.accord.proofs.TagsMade.{bytes_same}
 
 -- what is told of a block: its lock with Option, and its bytes; or its lock alone
@@ -44,8 +44,7 @@ pub record Shape (tell : ℕ → List ℕ → List ℕ) (count : ℕ) (s : List 
 pub block_shape : (option : Bool) (s : List ℕ) → Bytes s → NoRefusal (block_of option s) → Shape (tell_block option) 1 s
 unfolding block_of gather
 block_shape true s bs h =
-    let e0 = fits_true (leb 3 (length s) && (leb (length s) 34 && (eqb (get_or s 0 0) 0 && leb (get_or s 1 0) 1))) _ h in
-    let e1 = and_both (leb 3 (length s)) (leb (length s) 34 && (eqb (get_or s 0 0) 0 && leb (get_or s 1 0) 1)) e0 in
+    let e1 = fits_both (leb 3 (length s)) (leb (length s) 34 && (eqb (get_or s 0 0) 0 && leb (get_or s 1 0) 1)) _ h in
     let e2 = and_both (leb (length s) 34) (eqb (get_or s 0 0) 0 && leb (get_or s 1 0) 1) e1.1 in
     let e3 = and_both (eqb (get_or s 0 0) 0) (leb (get_or s 1 0) 1) e2.1 in
     let lo = leb-true 3 (length s) e1.0 in
@@ -64,8 +63,7 @@ block_shape true s bs h =
       is = sym (drop-cons s 0 0 (omega arith) ∙ ap₂ (λ (x : ℕ) (l : List ℕ). x ∷ l) z (drop-cons s 1 0 (omega arith)));
     }
 block_shape false s bs h =
-    let e0 = fits_true (leb 2 (length s) && (leb (length s) 33 && eqb (get_or s 0 0) 0)) _ h in
-    let e1 = and_both (leb 2 (length s)) (leb (length s) 33 && eqb (get_or s 0 0) 0) e0 in
+    let e1 = fits_both (leb 2 (length s)) (leb (length s) 33 && eqb (get_or s 0 0) 0) _ h in
     let e2 = and_both (leb (length s) 33) (eqb (get_or s 0 0) 0) e1.1 in
     let lo = leb-true 2 (length s) e1.0 in
     let hi = leb-true (length s) 33 e2.0 in
@@ -94,8 +92,7 @@ pub blocks_shape : (option : Bool) (count : ℕ) (s : List ℕ) → Bytes s → 
 unfolding blocks_of
 blocks_shape true count s bs h =
     let k = piece_of count s in
-    let e0 = fits_true (leb 2 k && (leb k 33 && all_of count (lock_at k s))) _ h in
-    let e1 = and_both (leb 2 k) (leb k 33 && all_of count (lock_at k s)) e0 in
+    let e1 = fits_both (leb 2 k) (leb k 33 && all_of count (lock_at k s)) _ h in
     let e2 = and_both (leb k 33) (all_of count (lock_at k s)) e1.1 in
     let lo = leb-true 2 k e1.0 in
     let hi = leb-true k 33 e2.0 in
@@ -115,8 +112,7 @@ blocks_shape true count s bs h =
     }
 blocks_shape false count s bs h =
     let k = piece_of count s in
-    let e0 = fits_true (leb 1 k && leb k 32) _ h in
-    let e1 = and_both (leb 1 k) (leb k 32) e0 in
+    let e1 = fits_both (leb 1 k) (leb k 32) _ h in
     let lo = leb-true 1 k e1.0 in
     let w = cut count k s refl lo in
     record {
@@ -136,8 +132,7 @@ pub locks_shape : (count : ℕ) (s : List ℕ) → NoRefusal (locks_of count s) 
 unfolding locks_of
 locks_shape count s h =
     let t = all_of count (λ i. leb (get_or s (1 + i) 0) 1) in
-    let e0 = fits_true (eqb (piece_of count s) 1 && t) _ h in
-    let e1 = and_both (eqb (piece_of count s) 1) t e0 in
+    let e1 = fits_both (eqb (piece_of count s) 1) t _ h in
     let k = eqb-true (piece_of count s) 1 e1.0 in
     let w = cut count 1 s k (omega arith) in
     record {

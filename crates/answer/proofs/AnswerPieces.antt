@@ -1,26 +1,24 @@
--- Pieces of one length behind 00, as a reader cuts an answer: what is gathered is cut again into its pieces, and what is cut is gathered again;
--- and how the answer reader goes over them.
+-- Pieces of one length behind 00, as a reader cuts an answer: what is gathered is cut again into its pieces, and what is cut is gathered again.
 -- Assumes nothing.
 use Rattle.std.specs.Prelude.{if◌then◌else◌}
 use mathlib.Core.Path.{◌≡◌, refl, sym, ap, ◌∙◌}
 use mathlib.Core.Bool.{Bool, true, false, ◌&&◌}
 use mathlib.Core.List.{List, [], ◌∷◌, ◌++◌}
 use Prim.Native.Nat.{ℕ, zero, suc, ◌+◌, ◌-◌, ◌*◌, ◌/◌, ◌≤◌, ◌<◌}
-use native.Mathlib.Nat.{mul-div_cancel_left, mul-div-le, mul-le-mul_right, zero-mul, suc-mul, mul-one}
-use native.Mathlib.Numerals.{add-one}
+use native.Mathlib.Nat.{mul-div_cancel_left, mul-le-mul_right, zero-mul, suc-mul, mul-one}
 use native.Mathlib.Omega.{arith}
 use lib.Dec.{eqb, leb}
 use lib.ListN.{length, get_or, take, drop, length-drop}
 use lib.Seq.{take_all, take-add, drop-cons, get_or-append-add, get_or-take}
-use borrow.Author.Tests.{le-leb, lt-leb, eq-eqb, ne_eqb, eqb-true}
+use borrow.Author.Tests.{le-leb, eq-eqb, eqb-true}
 use Rattle.frame.specs.Choose.{all_of, gather}
 use Rattle.frame.specs.Number.{part, Bytes}
-use Rattle.frame.proofs.Bools.{and_both, and_false, if_false}
+use Rattle.frame.proofs.Bools.{and_both}
 use Rattle.frame.proofs.Lists.{drop_head, gather_none, gather_suc}
 use Rattle.frame.proofs.Numbers.{bytes_drop, bytes_part}
 use Rattle.frame.proofs.Stores.{length_part}
 use Rattle.frame.proofs.Gather.{gather_part}
-use Rattle.frame.proofs.AllOf.{all_none, all_more, all_of_each, all_fails, all_ext}
+use Rattle.frame.proofs.AllOf.{all_of_each, all_ext}
 use Rattle.answer.specs.Answer.{piece_of}
 
 -- whether piece j begins with a lock byte
@@ -120,46 +118,3 @@ module _ (count k : ℕ) (c : List ℕ) (w : Cut count k c) where
 pub piece_bytes : (k : ℕ) (c : List ℕ) (i : ℕ) → Bytes c → Bytes (piece k c i)
 unfolding piece
 piece_bytes k c i bs = bytes_part (i * k) k (drop 1 c) (bytes_drop 1 c bs)
-
--- ---- what the answer reader does: the length of a piece, and its locks one after the other
-
-pub piece_empty : (count : ℕ) (c : List ℕ) → length c < 1 → 0 ≡ piece_of count c
-unfolding piece_of
-piece_empty count c h =
-    let each = (length c - 1) / count in
-    rw (ne_eqb (length c) (1 + count * each) (λ e. omega arith)) (sym (if_false (eqb (get_or c 0 0) 0 && false) each 0 (and_false (eqb (get_or c 0 0) 0))))
-
--- as many bytes as there are
-pub piece_room : (count : ℕ) (c : List ℕ) → 1 ≤ length c → 1 + count * ((length c - 1) / count) ≤ length c
-piece_room count c h = omega (arith, mul-div-le (length c - 1) count)
-
--- i of them begin with a lock byte, and the next one begins at a place
-pub record Testing (each count : ℕ) (c : List ℕ) (at i : ℕ) : Type 0 where
-  pub upto : i ≤ count
-  pub place : at ≡ 1 + i * each
-  pub held : all_of i (lock_at each c) ≡ true
-
-pub testing_none : (each count : ℕ) (c : List ℕ) → Testing each count c 1 0
-testing_none each count c = record { upto = omega arith; place = omega arith; held = all_none (lock_at each c) }
-
-module _ {each count at i : ℕ} {c : List ℕ} (run : Testing each count c at i) where
-  pub testing_room : i < count → 1 + count * each ≤ length c → at + each ≤ length c
-  testing_room h r =
-      let g : suc i * each ≤ count * each = mul-le-mul_right each h in
-      omega (arith, run.place, suc-mul i each)
-
-  pub testing_more : i < count → get_or c at 0 ≤ 1 → Testing each count c (at + each) (i + 1)
-  testing_more h e =
-      record {
-        upto = omega arith;
-        place = omega (arith, run.place, suc-mul i each, ap (λ (k : ℕ). k * each) (add-one i));
-        held = all_more i (lock_at each c) run.held (le-leb (get_or c (1 + i * each) 0) 1 (rw run.place at e));
-      }
-
-  pub testing_fails : i < count → 1 < get_or c at 0 → false ≡ all_of count (lock_at each c)
-  testing_fails h e = sym (all_fails count (lock_at each c) i h (lt-leb (get_or c (1 + i * each) 0) 1 (rw run.place at e)))
-
-  pub testing_done : count ≤ i → true ≡ all_of count (lock_at each c)
-  testing_done h =
-      let z : i ≡ count = omega (arith, run.upto) in
-      sym (rw z at run.held)

@@ -1,24 +1,24 @@
 // The answer reader.
-ghost use Rattle.std.specs.Prelude.{◌≡◌, true, false, ◌&&◌, eqb, leb, ◌+◌, ◌*◌, ◌≤◌, length, get_or};
+ghost use Rattle.std.specs.Prelude.{◌≡◌, ◌&&◌, eqb, leb, ◌+◌, ◌*◌, ◌≤◌, length, get_or};
 ghost use Rattle.frame.specs.Choose.{all_of};
-ghost use Rattle.frame.specs.CheckSum.{right};
-ghost use Rattle.request.specs.Table.{has_answer};
-ghost use Rattle.reader.specs.declared.command.ChipTask.TheVariants.{Initiate, Marker, Select, Read, Uid};
-ghost use Rattle.answer.specs.declared.reading.Meaning.TheVariants.{Refused};
+ghost use Rattle.reader.specs.declared.command.ChipTask.TheVariants.{Read, Uid};
+ghost use Rattle.answer.specs.declared.reading.Meaning.TheVariants.{Id};
 ghost use Rattle.answer.specs.Answer.{said, said_of, error_code, is_error, done_of, block_of, piece_of, blocks_of, locks_of, owned, info_of};
 ghost use Rattle.answer.specs.Answer.{success_of, label_reading, found_of, chip_reading, shape_of, reading_of};
+ghost use Rattle.answer.specs.Ways.{told, told_as, as_piece, sole};
 
 use frame::check_sum::is_right;
-use frame::number::{byte_at, number_of};
+use frame::number::{byte_at, word_at};
+use frame::refusal::Refusal;
 use frame::uid::{ends_in, same_uid, uid_at};
 use reader::command::{ChipTask, Command, is_valid};
-use request::label::{Params, Target};
+use request::label::{Params, Target, is_one};
 use request::table::{Success, Task, has_answer, row_of};
 
 // What an answer means. UIDs stand beside the meaning; of a block the place of its bytes in the frame and how many there are.
 #[derive(Clone, Copy)]
 pub enum Meaning {
-    // 7, 8 or 9.
+    // 7, 8 or 9: a number, since C is told it as it stands and `reading_of` gives it.
     Refused(u8),
     // A label's own error.
     Error(u8),
@@ -50,6 +50,17 @@ pub struct Reading {
     pub uid: [u8; 8],
 }
 
+impl From<Result<Reading, Refusal>> for Reading {
+    ghost from_gives = { λ read r. r ≡ told_as read };
+
+    fn from(read: Result<Reading, Refusal>) -> Reading {
+        match read {
+            Ok(reading) => reading,
+            Err(why) => plain(Meaning::Refused(why.number())),
+        }
+    }
+}
+
 // A meaning with no UID beside it.
 fn plain(meaning: Meaning) -> Reading
     ensures { result ≡ said meaning }
@@ -67,113 +78,66 @@ fn with_uid(meaning: Meaning, uid: [u8; 8]) -> Reading
     Reading { meaning, uid }
 }
 
-fn refused(n: u8) -> Reading
-    ensures { result ≡ said (Refused n) }
-{
-    plain(Meaning::Refused(n))
-}
-
 // Whether a byte is an error's code.
+#[tactic(auto, unfolding(crate::specs::Answer::error_code))]
 fn is_code(code: u8) -> bool
     ensures { result ≡ error_code code }
 {
-    if code < 1 {
-        return false;
-    }
-    if code <= 3 {
-        return true;
-    }
-    if code < 0x10 {
-        return false;
-    }
-    code <= 0x12
+    1 <= code && code <= 3 || 0x10 <= code && code <= 0x12
 }
 
 // Whether c, a frame's content without its check sum, is a label's error.
+#[tactic(auto, unfolding(crate::specs::Answer::is_error))]
 fn is_error(c: &[u8]) -> bool
     ensures { result ≡ is_error c.now }
 {
-    if c.len() != 2 {
-        return false;
-    }
-    if c[0] != 1 {
-        return false;
-    }
-    is_code(c[1])
+    c.len() == 2 && c[0] == 1 && is_code(c[1])
 }
 
-fn done(c: &[u8]) -> Reading
-    ensures { result ≡ done_of c.now }
+#[tactic(auto, unfolding(crate::specs::Answer::done_of))]
+fn done(c: &[u8]) -> Option<Reading>
+    ensures { told result ≡ done_of c.now }
 {
-    if c.len() != 1 {
-        return refused(9);
+    if c.len() == 1 && c[0] == 0 {
+        Some(plain(Meaning::Done))
+    } else {
+        None
     }
-    if c[0] != 0 {
-        return refused(9);
-    }
-    plain(Meaning::Done)
 }
 
-// 00, lock byte, a block of 1 to 32 bytes.
-fn locked_block(c: &[u8]) -> Reading
-    ensures { result ≡ block_of true c.now }
+// 00, a lock byte if Option, a block of 1 to 32 bytes.
+#[tactic(auto, unfolding(crate::specs::Answer::block_of))]
+fn block(option: bool, c: &[u8]) -> Option<Reading>
+    ensures { told result ≡ block_of option c.now }
 {
-    if c.len() < 3 {
-        return refused(9);
+    let front = if option { 2 } else { 1 };
+    if c.len() <= front || front + 32 < c.len() || c[0] != 0 {
+        return None;
     }
-    if 34 < c.len() {
-        return refused(9);
-    }
-    if c[0] != 0 {
-        return refused(9);
+    let long = c.len() - front;
+    if !option {
+        return Some(plain(Meaning::Block(front, long)));
     }
     if 1 < c[1] {
-        return refused(9);
+        return None;
     }
-    plain(Meaning::LockAndBlock(c[1], 2, c.len() - 2))
+    Some(plain(Meaning::LockAndBlock(c[1], front, long)))
 }
 
-// 00, a block of 1 to 32 bytes.
-fn plain_block(c: &[u8]) -> Reading
-    ensures { result ≡ block_of false c.now }
-{
-    if c.len() < 2 {
-        return refused(9);
-    }
-    if 33 < c.len() {
-        return refused(9);
-    }
-    if c[0] != 0 {
-        return refused(9);
-    }
-    plain(Meaning::Block(1, c.len() - 1))
-}
-
-fn block(option: bool, c: &[u8]) -> Reading
-    ensures { result ≡ block_of option c.now }
-{
-    if option {
-        return locked_block(c);
-    }
-    plain_block(c)
-}
-
-// How many bytes each of count pieces of one length has, one behind the other behind 00; 0 where c is no such pieces.
-fn piece(count: usize, c: &[u8]) -> usize
+// How many bytes each of count pieces of one length has, one behind the other behind 00.
+#[tactic(auto, unfolding(crate::specs::Answer::piece_of))]
+fn piece(count: usize, c: &[u8]) -> Option<usize>
     requires { 1 ≤ count }
-    ensures { result ≡ piece_of count c.now }
+    ensures { as_piece result ≡ piece_of count c.now }
 {
-    if c.len() < 1 {
-        return 0;
-    }
-    if c[0] != 0 {
-        return 0;
+    if c.len() < 1 || c[0] != 0 {
+        return None;
     }
     let each = (c.len() - 1) / count;
     if c.len() != 1 + count * each {
-        return 0;
+        return None;
     }
-    each
+    Some(each)
 }
 
 // Whether each of count pieces, of so many bytes, begins with a lock byte.
@@ -181,116 +145,77 @@ fn are_locks(each: usize, count: usize, c: &[u8]) -> bool
     requires { (1 ≤ each) × (1 + count * each ≤ length c.now) }
     ensures { result ≡ all_of count (λ i. leb (get_or c.now (1 + i * each) 0) 1) }
 {
-    let mut at = 1;
-    let mut i = 0;
-    while i < count {
-        if 1 < c[at] {
+    for i in 0..count {
+        if 1 < c[1 + i * each] {
             return false;
         }
-        at += each;
-        i += 1;
     }
     true
 }
 
-// Blocks of 1 to 32 bytes, a lock byte before each.
-fn locked_blocks(count: usize, c: &[u8]) -> Reading
+// Blocks of 1 to 32 bytes, a lock byte before each if Option.
+#[tactic(auto, unfolding(crate::specs::Answer::blocks_of), using(crate::proofs::AnswerPieces::piece_all))]
+fn blocks(option: bool, count: usize, c: &[u8]) -> Option<Reading>
     requires { 1 ≤ count }
-    ensures { result ≡ blocks_of true count c.now }
+    ensures { told result ≡ blocks_of option count c.now }
 {
-    let each = piece(count, c);
-    if each < 2 {
-        return refused(9);
+    let each = piece(count, c)?;
+    let front = if option { 1 } else { 0 };
+    if each <= front || front + 32 < each {
+        return None;
     }
-    if 33 < each {
-        return refused(9);
+    if !option {
+        return Some(plain(Meaning::Blocks(1, each, count)));
     }
     if !are_locks(each, count, c) {
-        return refused(9);
+        return None;
     }
-    plain(Meaning::LocksAndBlocks(1, each - 1, count))
-}
-
-// Blocks of 1 to 32 bytes.
-fn plain_blocks(count: usize, c: &[u8]) -> Reading
-    requires { 1 ≤ count }
-    ensures { result ≡ blocks_of false count c.now }
-{
-    let each = piece(count, c);
-    if each < 1 {
-        return refused(9);
-    }
-    if 32 < each {
-        return refused(9);
-    }
-    plain(Meaning::Blocks(1, each, count))
-}
-
-fn blocks(option: bool, count: usize, c: &[u8]) -> Reading
-    requires { 1 ≤ count }
-    ensures { result ≡ blocks_of option count c.now }
-{
-    if option {
-        return locked_blocks(count, c);
-    }
-    plain_blocks(count, c)
+    Some(plain(Meaning::LocksAndBlocks(1, each - front, count)))
 }
 
 // Lock bytes alone.
-fn locks(count: usize, c: &[u8]) -> Reading
+#[tactic(auto, unfolding(crate::specs::Answer::locks_of), using(crate::proofs::AnswerPieces::piece_all))]
+fn locks(count: usize, c: &[u8]) -> Option<Reading>
     requires { 1 ≤ count }
-    ensures { result ≡ locks_of count c.now }
+    ensures { told result ≡ locks_of count c.now }
 {
-    if piece(count, c) != 1 {
-        return refused(9);
+    let each = piece(count, c)?;
+    if each != 1 || !are_locks(1, count, c) {
+        return None;
     }
-    if !are_locks(1, count, c) {
-        return refused(9);
-    }
-    plain(Meaning::Locks(1, count))
+    Some(plain(Meaning::Locks(1, count)))
 }
 
 // Whether a UID read is the target's, where the target is one UID.
 fn owns(to: Target, uid: [u8; 8], u: [u8; 8]) -> bool
     ensures { result ≡ owned to uid u }
 {
-    match to {
-        Target::Everyone => true,
-        Target::Selected => true,
-        Target::One => same_uid(u, uid),
-    }
+    !is_one(to) || same_uid(u, uid)
 }
 
 // Whether the bytes of a label's description are allowed: 00, 0F, length less 1, and whose it is.
 fn info_fits(a: u8, b: u8, size: u8, own: bool) -> bool
     ensures { result ≡ eqb a 0 && (eqb b 0x0F && (leb size 31 && own)) }
 {
-    if a != 0 {
-        return false;
-    }
-    if b != 0x0F {
-        return false;
-    }
-    if 31 < size {
-        return false;
-    }
-    own
+    a == 0 && b == 0x0F && size <= 31 && own
 }
 
-fn info(to: Target, uid: [u8; 8], c: &[u8]) -> Reading
-    ensures { result ≡ info_of to uid c.now }
+#[tactic(auto, unfolding(crate::specs::Answer::info_of))]
+fn info(to: Target, uid: [u8; 8], c: &[u8]) -> Option<Reading>
+    ensures { told result ≡ info_of to uid c.now }
 {
     if c.len() != 15 {
-        return refused(9);
+        return None;
     }
     let u = uid_at(c, 2);
     if !info_fits(c[0], c[1], c[13], owns(to, uid, u)) {
-        return refused(9);
+        return None;
     }
-    with_uid(Meaning::Info(c[10], c[11], c[12], c[13], c[14]), u)
+    Some(with_uid(Meaning::Info(c[10], c[11], c[12], c[13], c[14]), u))
 }
 
 // What c, which is no error, means where a success is of this kind; more is the count less 1 that was asked.
+#[tactic(auto, unfolding(crate::specs::Answer::success_of))]
 fn success_in(
     to: Target,
     option: bool,
@@ -298,12 +223,12 @@ fn success_in(
     more: u8,
     uid: [u8; 8],
     c: &[u8],
-) -> Reading
-    ensures { result ≡ success_of to option success more uid c.now }
+) -> Option<Reading>
+    ensures { told result ≡ success_of to option success more uid c.now }
 {
     let count = more as usize + 1;
     match success {
-        Success::Never => refused(9),
+        Success::Never => None,
         Success::Done => done(c),
         Success::Block => block(option, c),
         Success::Info => info(to, uid, c),
@@ -312,148 +237,122 @@ fn success_in(
     }
 }
 
-// Whether c is an error that a task can answer with.
-fn errs(success: Success, c: &[u8]) -> bool
-    ensures { result ≡ has_answer success && is_error c.now }
+// An error that the task can answer with, or a success.
+#[tactic(auto, unfolding(crate::specs::Answer::label_reading))]
+fn label_reading(
+    to: Target,
+    option: bool,
+    task: Task,
+    p: Params,
+    uid: [u8; 8],
+    c: &[u8],
+) -> Option<Reading>
+    ensures { told result ≡ label_reading to option task p uid c.now }
 {
-    if has_answer(success) {
-        return is_error(c);
-    }
-    false
-}
-
-fn label_reading(to: Target, option: bool, task: Task, p: Params, uid: [u8; 8], c: &[u8]) -> Reading
-    ensures { result ≡ label_reading to option task p uid c.now }
-{
-    let row = row_of(task);
-    let success = row.success;
-    if errs(success, c) {
-        return plain(Meaning::Error(byte_at(c, 1)));
+    let success = row_of(task).success;
+    if has_answer(success) && is_error(c) {
+        return Some(plain(Meaning::Error(byte_at(c, 1))));
     }
     success_in(to, option, success, p.second, uid, c)
 }
 
 // 00, DSFID, a UID that ends in the mask sent. Never an error.
-fn found(bits: u8, mask: u64, c: &[u8]) -> Reading
-    ensures { result ≡ found_of bits mask c.now }
+#[tactic(auto, unfolding(crate::specs::Answer::found_of))]
+fn found(bits: u8, mask: u64, c: &[u8]) -> Option<Reading>
+    ensures { told result ≡ found_of bits mask c.now }
 {
-    if c.len() != 10 {
-        return refused(9);
-    }
-    if c[0] != 0 {
-        return refused(9);
+    if c.len() != 10 || c[0] != 0 {
+        return None;
     }
     let u = uid_at(c, 2);
     if !ends_in(u, mask, bits as u32) {
-        return refused(9);
+        return None;
     }
-    with_uid(Meaning::Found(c[1]), u)
+    Some(with_uid(Meaning::Found(c[1]), u))
 }
 
-// A Chip_ID.
-fn any_id(c: &[u8]) -> Reading
-    ensures { result ≡ chip_reading Initiate c.now }
+// The one byte of c.
+fn sole(c: &[u8]) -> Option<u8>
+    ensures { result ≡ sole c.now }
 {
-    if c.len() != 1 {
-        return refused(9);
-    }
-    plain(Meaning::Id(c[0]))
+    if c.len() == 1 { Some(c[0]) } else { None }
 }
 
-// A Chip_ID whose low four bits are n.
-fn slot_id(n: u8, c: &[u8]) -> Reading
-    ensures { result ≡ chip_reading (Marker n) c.now }
+fn chip_id(id: u8) -> Reading
+    ensures { result ≡ said (Id id) }
 {
-    if c.len() != 1 {
-        return refused(9);
-    }
-    if c[0] % 16 != n {
-        return refused(9);
-    }
-    plain(Meaning::Id(c[0]))
-}
-
-// One Chip_ID.
-fn this_id(id: u8, c: &[u8]) -> Reading
-    ensures { result ≡ chip_reading (Select id) c.now }
-{
-    if c.len() != 1 {
-        return refused(9);
-    }
-    if c[0] != id {
-        return refused(9);
-    }
-    plain(Meaning::Id(c[0]))
+    plain(Meaning::Id(id))
 }
 
 // A chip's block.
-fn word(c: &[u8]) -> Reading
-    ensures { result ≡ chip_reading (Read 0) c.now }
+#[tactic(auto, unfolding(crate::specs::Answer::chip_reading), using(crate::proofs::AnswerWays::all_there))]
+fn word(c: &[u8]) -> Option<Reading>
+    ensures { told result ≡ chip_reading (Read 0) c.now }
 {
     if c.len() != 4 {
-        return refused(9);
+        return None;
     }
-    plain(Meaning::Word(number_of(c) as u32))
+    Some(plain(Meaning::Word(word_at(c, 0))))
 }
 
 // A chip's UID.
-fn chip_uid(c: &[u8]) -> Reading
-    ensures { result ≡ chip_reading Uid c.now }
+#[tactic(auto, unfolding(crate::specs::Answer::chip_reading), using(crate::proofs::AnswerWays::all_there))]
+fn chip_uid(c: &[u8]) -> Option<Reading>
+    ensures { told result ≡ chip_reading Uid c.now }
 {
     if c.len() != 8 {
-        return refused(9);
+        return None;
     }
-    with_uid(Meaning::Uid, uid_at(c, 0))
+    Some(with_uid(Meaning::Uid, uid_at(c, 0)))
 }
 
-fn chip_reading(task: ChipTask, c: &[u8]) -> Reading
-    ensures { result ≡ chip_reading task c.now }
+// A Chip_ID, of four bits or whole the one asked for where one is; a block; a UID.
+#[tactic(auto, unfolding(crate::specs::Answer::chip_reading))]
+fn chip_reading(task: ChipTask, c: &[u8]) -> Option<Reading>
+    ensures { told result ≡ chip_reading task c.now }
 {
     match task {
-        ChipTask::Initiate => any_id(c),
-        ChipTask::Pcall => slot_id(0, c),
-        ChipTask::Marker(n) => slot_id(n, c),
-        ChipTask::Select(id) => this_id(id, c),
-        ChipTask::Completion => refused(9),
-        ChipTask::Reset => refused(9),
+        ChipTask::Initiate => sole(c).map(chip_id),
+        ChipTask::Pcall => sole(c).filter(|id| *id % 16 == 0).map(chip_id),
+        ChipTask::Marker(n) => sole(c).filter(|id| *id % 16 == n).map(chip_id),
+        ChipTask::Select(asked) => sole(c).filter(|id| *id == asked).map(chip_id),
         ChipTask::Read(_) => word(c),
         ChipTask::Uid => chip_uid(c),
-        ChipTask::Write(_) => refused(9),
+        ChipTask::Completion | ChipTask::Reset | ChipTask::Write(_) => None,
     }
 }
 
 // What a frame's bytes before its check sum mean to a command.
-fn shape(command: Command, uid: [u8; 8], c: &[u8]) -> Reading
-    ensures { result ≡ shape_of command uid c.now }
+#[tactic(auto, unfolding(crate::specs::Answer::shape_of))]
+fn shape(command: Command, uid: [u8; 8], c: &[u8]) -> Option<Reading>
+    ensures { told result ≡ shape_of command uid c.now }
 {
     match command {
         Command::Inventory(_, _, _, _, bits, mask) => found(bits, mask, c),
         Command::Label(to, option, task, p) => label_reading(to, option, task, p, uid, c),
         Command::Chip(_, _, task) => chip_reading(task, c),
-        Command::Other(_, _) => refused(9),
+        Command::Other(_, _) => None,
     }
 }
 
-// Whether a frame holds an answer: three bytes or more, and its check sum is right.
-fn is_whole(frame: &[u8]) -> bool
-    ensures { result ≡ leb 3 (length frame.now) && right frame.now }
+// What frame means to a command, or why it means nothing.
+#[tactic(auto, unfolding(crate::specs::Answer::reading_of))]
+fn try_read(command: Command, uid: [u8; 8], n: usize, frame: &[u8]) -> Result<Reading, Refusal>
+    ensures { told_as result ≡ reading_of command uid n frame.now }
 {
-    if frame.len() < 3 {
-        return false;
+    if !is_valid(command, n) {
+        return Err(Refusal::Fields);
     }
-    is_right(frame)
+    if frame.len() < 3 || !is_right(frame) {
+        return Err(Refusal::Frame);
+    }
+    let m = frame.len() - 2;
+    shape(command, uid, &frame[0..m]).ok_or(Refusal::Meaning)
 }
 
 // What frame means to a command, sent for uid where it is for one UID, with n bytes of data.
 pub fn read_answer(command: Command, uid: [u8; 8], n: usize, frame: &[u8]) -> Reading
     ensures { result ≡ reading_of command uid n frame.now }
 {
-    if !is_valid(command, n) {
-        return refused(7);
-    }
-    if !is_whole(frame) {
-        return refused(8);
-    }
-    let m = frame.len() - 2;
-    shape(command, uid, &frame[0..m])
+    Reading::from(try_read(command, uid, n, frame))
 }

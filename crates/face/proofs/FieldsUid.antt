@@ -18,8 +18,8 @@ use Rattle.request.specs.Table.{row_of}
 use Rattle.request.specs.declared.table.Task.{Task}
 use Rattle.request.specs.declared.table.Success.{Success}
 use Rattle.request.specs.declared.table.Success.TheVariants as s
-use Rattle.request.specs.declared.table.Found.{Found}
-use Rattle.request.specs.declared.table.Found.TheVariants.{Known, Missing}
+use Rattle.std.specs.Prelude.{Option, Some, None}
+use Rattle.request.specs.declared.table.Row.{Row}
 use Rattle.reader.specs.declared.command.ChipTask.{ChipTask}
 use Rattle.reader.specs.declared.command.Command.{Command}
 use Rattle.reader.specs.declared.command.Command.TheVariants.{Inventory, Label, Chip, Other}
@@ -91,10 +91,10 @@ blind_label true option task p =
 blind_label false option task p =
     record { sent = λ u v d. refl; heard = λ u v a. rw (blind_success false option (row_of task).success p.second u v a) refl }
 
-blind_task : (x : Found) (e option : Bool) (p : Params) → Blind (task_command x (others e) option p)
+blind_task : (x : Option Row) (e option : Bool) (p : Params) → Blind (task_command x (others e) option p)
 unfolding task_command
-blind_task (Known row) e option p = blind_label e option row.task p
-blind_task Missing e option p = blind_other 1 0
+blind_task (Some row) e option p = blind_label e option row.task p
+blind_task None e option p = blind_other 1 0
 
 blind_code : (code : ℕ) (to : Target) (option : Bool) (byte : ℕ) → Blind (chip_command code to option byte)
 unfolding chip_command

@@ -1,3 +1,2 @@
 -- The laws of the numbers.
 pub mod FieldsUid
-pub mod ToldWays

@@ -1,6 +1,6 @@
 -- What the numbers of the C face mean: which command they name. A command of other numbers is `Other`, which no request has.
 -- Assumes nothing.
-use Rattle.std.specs.Prelude.{Bool, true, false, List, ℕ, eqb, ltb, length, replicate, if◌then◌else◌}
+use Rattle.std.specs.Prelude.{Bool, true, false, List, ℕ, eqb, ltb, length, replicate, if◌then◌else◌, Option, Some, None}
 use Rattle.request.specs.declared.label.Family.{Family}
 use Rattle.request.specs.declared.label.Family.TheVariants.{Any, Only}
 use Rattle.request.specs.declared.label.Target.{Target}
@@ -8,8 +8,8 @@ use Rattle.request.specs.declared.label.Target.TheVariants.{Everyone, Selected, 
 use Rattle.request.specs.Label.{both}
 use Rattle.request.specs.declared.label.Params.{Params}
 use Rattle.request.specs.Table.{table, lookup}
-use Rattle.request.specs.declared.table.Found.{Found}
-use Rattle.request.specs.declared.table.Found.TheVariants.{Known, Missing}
+use Rattle.request.specs.declared.table.Row.{Row}
+use Rattle.reader.specs.declared.command.ChipTask.{ChipTask}
 use Rattle.reader.specs.declared.command.ChipTask.TheVariants as p
 use Rattle.reader.specs.declared.command.Command.{Command}
 use Rattle.reader.specs.declared.command.Command.TheVariants.{Inventory, Label, Chip, Other}
@@ -25,9 +25,9 @@ unfoldable pub target_of : ℕ → Target
 target_of n = if eqb n 0 then Everyone else if eqb n 1 then Selected else One
 
 -- a label's command by its code's row, Inventory beside
-unfoldable pub task_command : Found → Target → Bool → Params → Command
-task_command (Known row) to option p = Label to option row.task p
-task_command Missing to option p = Other 1 0
+unfoldable pub task_command : Option Row → Target → Bool → Params → Command
+task_command (Some row) to option p = Label to option row.task p
+task_command None to option p = Other 1 0
 
 -- a chip's command by its code: both bytes of those that begin with 06, the slot marker's alone is 06
 unfoldable pub chip_command : ℕ → Target → Bool → ℕ → Command
@@ -64,3 +64,12 @@ uid_of bytes = if eqb (length bytes) 8 then bytes else replicate 8 0
 -- with n bytes of a UID: to one UID nothing is sent without eight, and no other command looks at them
 unfoldable pub command_for : Fields → ℕ → Command
 command_for f n = if eqb f.target 2 then (if eqb n 8 then command_of f else Other f.kind 0) else command_of f
+
+-- numbers that name no command name one that no request has
+abbrev pub or_command : Option Command → Command → Command
+or_command (Some c) other = c
+or_command None other = other
+
+abbrev pub or_chip : Option ChipTask → Target → Bool → Command
+or_chip (Some task) to option = Chip to option task
+or_chip None to option = Other 2 0

@@ -1,16 +1,16 @@
 // A command put together from the numbers that C hands over, and its UID.
-ghost use Rattle.std.specs.Prelude.{◌≡◌};
-ghost use Rattle.request.specs.Table.{table, lookup};
-ghost use Rattle.request.specs.Label.{both};
-ghost use Rattle.face.specs.Fields.{family_of, target_of, task_command, chip_command, label_command, command_of, uid_of, command_for};
+ghost use Rattle.std.specs.Prelude.{◌≡◌, Bool, ltb, Some, None, if◌then◌else◌};
+ghost use Rattle.request.specs.declared.label.Target.{Target};
+ghost use Rattle.reader.specs.declared.command.Command.TheVariants.{Other};
+ghost use Rattle.face.specs.Fields.{family_of, target_of, chip_command, label_command, command_of, uid_of, command_for, or_command, or_chip};
 
 use frame::uid::uid_at;
 use reader::command::{ChipTask, Command};
 use request::label::{Family, Params, Target};
-use request::table::{Found, find};
+use request::table::find;
 
 // A command's numbers; which of them count depends on the command. given says whether there is an AFI;
-// byte is a block, an address, a slot, a Chip_ID or a value to write; more is how many blocks are asked for behind that one.
+// byte is a block, an address, a slot, a Chip_ID or a value to write; more is how many blocks are asked for behind that one. C gives it as it stands.
 #[repr(C)]
 #[derive(Clone, Copy)]
 pub struct Fields {
@@ -32,94 +32,98 @@ pub fn family_of(given: bool, afi: u8) -> Family
     ensures { result ≡ family_of given afi }
 {
     if given {
-        return Family::Only(afi);
+        Family::Only(afi)
+    } else {
+        Family::Any
     }
-    Family::Any
 }
 
-fn target_of(n: u8) -> Target
-    ensures { result ≡ target_of n }
+// The target of a number; a number over 2 is none.
+#[tactic(auto, unfolding(crate::specs::Fields::target_of))]
+fn target_of(n: u8) -> Option<Target>
+    ensures { result ≡ (if ltb 2 n then None else Some (target_of n)) }
 {
-    if n == 0 {
-        return Target::Everyone;
-    }
-    if n == 1 {
-        return Target::Selected;
-    }
-    Target::One
-}
-
-// A label's command by its code, Inventory beside.
-fn task_command(code: u16, to: Target, option: bool, byte: u8, more: u8) -> Command
-    ensures { result ≡ task_command (lookup code table) to option (both byte more) }
-{
-    if 255 < code {
-        return Command::Other(1, 0);
-    }
-    let found = find(code as u8);
-    let Found::Known(row) = found else {
-        return Command::Other(1, 0);
-    };
-    let task = row.task;
-    let p = Params {
-        first: byte,
-        second: more,
-    };
-    Command::Label(to, option, task, p)
-}
-
-fn chip_command(code: u16, to: Target, option: bool, byte: u8) -> Command
-    ensures { result ≡ chip_command code to option byte }
-{
-    match code {
-        0x0600 => Command::Chip(to, option, ChipTask::Initiate),
-        0x0604 => Command::Chip(to, option, ChipTask::Pcall),
-        0x06 => Command::Chip(to, option, ChipTask::Marker(byte)),
-        0x08 => Command::Chip(to, option, ChipTask::Read(byte)),
-        0x09 => Command::Chip(to, option, ChipTask::Write(byte)),
-        0x0B => Command::Chip(to, option, ChipTask::Uid),
-        0x0C => Command::Chip(to, option, ChipTask::Reset),
-        0x0E => Command::Chip(to, option, ChipTask::Select(byte)),
-        0x0F => Command::Chip(to, option, ChipTask::Completion),
-        _ => Command::Other(2, 0),
+    match n {
+        0 => Some(Target::Everyone),
+        1 => Some(Target::Selected),
+        2 => Some(Target::One),
+        _ => None,
     }
 }
 
-fn label_command(f: Fields, to: Target) -> Command
-    ensures { result ≡ label_command f to }
+// A label's command: Inventory, or a task by its code.
+#[tactic(auto, unfolding(crate::specs::Fields::label_command, crate::specs::Fields::task_command), using(request::proofs::TableLookup::look_over))]
+fn label_command(f: Fields, to: Target) -> Option<Command>
+    ensures { or_command result (Other 1 0) ≡ label_command f to }
 {
     if f.code == 0x01 {
         let family = family_of(f.given, f.afi);
-        return Command::Inventory(to, f.option, family, f.sixteen, f.bits, f.mask);
+        return Some(Command::Inventory(to, f.option, family, f.sixteen, f.bits, f.mask));
     }
-    task_command(f.code, to, f.option, f.byte, f.more)
+    let code = u8::try_from(f.code).ok()?;
+    let row = find(code)?;
+    let p = Params {
+        first: f.byte,
+        second: f.more,
+    };
+    Some(Command::Label(to, f.option, row.task, p))
 }
 
+// A chip's task by its code, with the byte that goes with it.
+#[tactic(auto, unfolding(crate::specs::Fields::chip_command))]
+fn chip_task(code: u16, byte: u8) -> Option<ChipTask>
+    ensures { (to : Target) → (option : Bool) → or_chip result to option ≡ chip_command code to option byte }
+{
+    match code {
+        0x0600 => Some(ChipTask::Initiate),
+        0x0604 => Some(ChipTask::Pcall),
+        0x06 => Some(ChipTask::Marker(byte)),
+        0x08 => Some(ChipTask::Read(byte)),
+        0x09 => Some(ChipTask::Write(byte)),
+        0x0B => Some(ChipTask::Uid),
+        0x0C => Some(ChipTask::Reset),
+        0x0E => Some(ChipTask::Select(byte)),
+        0x0F => Some(ChipTask::Completion),
+        _ => None,
+    }
+}
+
+fn chip_command(f: Fields, to: Target) -> Option<Command>
+    ensures { or_command result (Other 2 0) ≡ chip_command f.code to f.option f.byte }
+{
+    let task = chip_task(f.code, f.byte)?;
+    Some(Command::Chip(to, f.option, task))
+}
+
+// The command that the numbers name, if they name one.
 #[tactic(auto, unfolding(crate::specs::Fields::command_of))]
+fn named(f: Fields) -> Option<Command>
+    ensures { or_command result (Other f.kind 0) ≡ command_of f }
+{
+    let to = target_of(f.target)?;
+    match f.kind {
+        1 => label_command(f, to),
+        2 => chip_command(f, to),
+        _ => None,
+    }
+}
+
 pub fn command_of(f: Fields) -> Command
     ensures { result ≡ command_of f }
 {
-    if 2 < f.target {
-        return Command::Other(f.kind, 0);
-    }
-    let to = target_of(f.target);
-    if f.kind == 1 {
-        return label_command(f, to);
-    }
-    if f.kind == 2 {
-        return chip_command(f.code, to, f.option, f.byte);
-    }
-    Command::Other(f.kind, 0)
+    named(f).unwrap_or(Command::Other(f.kind, 0))
 }
 
 // A UID of eight bytes; zeros where they are not eight.
+#[tactic(auto, unfolding(crate::specs::Fields::uid_of), using(answer::proofs::AnswerWays::all_there))]
 pub fn uid_of(bytes: &[u8]) -> [u8; 8]
     ensures { result ≡ uid_of bytes.now }
 {
     if bytes.len() == 8 {
-        return uid_at(bytes, 0);
+        uid_at(bytes, 0)
+    } else {
+        [0; 8]
     }
-    [0; 8]
 }
 
 // The command of these numbers with n bytes of a UID.
@@ -127,11 +131,9 @@ pub fn uid_of(bytes: &[u8]) -> [u8; 8]
 pub fn command_for(f: Fields, n: usize) -> Command
     ensures { result ≡ command_for f n }
 {
-    if f.target != 2 {
-        return command_of(f);
+    if f.target != 2 || n == 8 {
+        command_of(f)
+    } else {
+        Command::Other(f.kind, 0)
     }
-    if n == 8 {
-        return command_of(f);
-    }
-    Command::Other(f.kind, 0)
 }

@@ -4,7 +4,7 @@ ghost use Rattle.face.specs.Told.{told_by, told_as};
 
 use answer::reading::Meaning;
 
-// What a reading says; what does not go with its meaning is 0.
+// What a reading says; what does not go with its meaning is 0. C gets it as it stands, so it has numbers for kinds.
 #[repr(C)]
 #[derive(Clone, Copy)]
 pub struct Told {
@@ -25,73 +25,47 @@ pub struct Told {
     pub count: usize,
 }
 
+const NOTHING: Told = Told {
+    number: 0,
+    meaning: 0,
+    error: 0,
+    dsfid: 0,
+    afi: 0,
+    blocks: 0,
+    size: 0,
+    ic: 0,
+    lock: 0,
+    id: 0,
+    word: 0,
+    place: 0,
+    length: 0,
+    uid: 0,
+    count: 0,
+};
+
 // A meaning with nothing beside it.
 fn bare(meaning: u8) -> Told
     ensures { result ≡ told_by 0 meaning 0 0 0 0 0 0 0 0 0 0 0 0 0 }
 {
+    Told { meaning, ..NOTHING }
+}
+
+// Blocks, or their lock bytes: the place of the first, the length of each, how many.
+fn several(meaning: u8, place: usize, length: usize, count: usize) -> Told
+    ensures { result ≡ told_by 0 meaning 0 0 0 0 0 0 0 0 0 place «length» 0 count }
+{
     Told {
-        number: 0,
-        meaning,
-        error: 0,
-        dsfid: 0,
-        afi: 0,
-        blocks: 0,
-        size: 0,
-        ic: 0,
-        lock: 0,
-        id: 0,
-        word: 0,
-        place: 0,
-        length: 0,
-        uid: 0,
-        count: 0,
-    }
-}
-
-fn refused(number: u8) -> Told
-    ensures { result ≡ told_by number 0 0 0 0 0 0 0 0 0 0 0 0 0 0 }
-{
-    let t = bare(0);
-    Told { number, ..t }
-}
-
-fn error(error: u8) -> Told
-    ensures { result ≡ told_by 0 1 error 0 0 0 0 0 0 0 0 0 0 0 0 }
-{
-    let t = bare(1);
-    Told { error, ..t }
-}
-
-fn found(dsfid: u8, uid: u64) -> Told
-    ensures { result ≡ told_by 0 3 0 dsfid 0 0 0 0 0 0 0 0 0 uid 0 }
-{
-    let t = bare(3);
-    Told { dsfid, uid, ..t }
-}
-
-fn block(place: usize, length: usize) -> Told
-    ensures { result ≡ told_by 0 4 0 0 0 0 0 0 0 0 0 place «length» 0 0 }
-{
-    let t = bare(4);
-    Told { place, length, ..t }
-}
-
-fn locked_block(lock: u8, place: usize, length: usize) -> Told
-    ensures { result ≡ told_by 0 5 0 0 0 0 0 0 lock 0 0 place «length» 0 0 }
-{
-    let t = bare(5);
-    Told {
-        lock,
         place,
         length,
-        ..t
+        count,
+        ..bare(meaning)
     }
 }
 
+// What a label says of itself.
 fn info(dsfid: u8, afi: u8, blocks: u8, size: u8, ic: u8, uid: u64) -> Told
     ensures { result ≡ told_by 0 6 0 dsfid afi blocks size ic 0 0 0 0 0 uid 0 }
 {
-    let t = bare(6);
     Told {
         dsfid,
         afi,
@@ -99,58 +73,32 @@ fn info(dsfid: u8, afi: u8, blocks: u8, size: u8, ic: u8, uid: u64) -> Told
         size,
         ic,
         uid,
-        ..t
+        ..bare(6)
     }
 }
 
-fn chip_id(id: u8) -> Told
-    ensures { result ≡ told_by 0 7 0 0 0 0 0 0 0 id 0 0 0 0 0 }
-{
-    let t = bare(7);
-    Told { id, ..t }
-}
-
-fn word(word: u32) -> Told
-    ensures { result ≡ told_by 0 8 0 0 0 0 0 0 0 0 word 0 0 0 0 }
-{
-    let t = bare(8);
-    Told { word, ..t }
-}
-
-fn chip_uid(uid: u64) -> Told
-    ensures { result ≡ told_by 0 9 0 0 0 0 0 0 0 0 0 0 0 uid 0 }
-{
-    let t = bare(9);
-    Told { uid, ..t }
-}
-
-// Several blocks, or their lock bytes: the place of the first, the length of each, how many.
-fn several(meaning: u8, place: usize, length: usize, count: usize) -> Told
-    ensures { result ≡ told_by 0 meaning 0 0 0 0 0 0 0 0 0 place «length» 0 count }
-{
-    let t = bare(meaning);
-    Told {
-        place,
-        length,
-        count,
-        ..t
-    }
-}
-
+#[tactic(auto, unfolding(crate::specs::Told::told_as))]
 pub fn tell(meaning: Meaning, uid: u64) -> Told
     ensures { result ≡ told_as meaning uid }
 {
     match meaning {
-        Meaning::Refused(n) => refused(n),
-        Meaning::Error(code) => error(code),
+        Meaning::Refused(number) => Told { number, ..NOTHING },
+        Meaning::Error(error) => Told { error, ..bare(1) },
         Meaning::Done => bare(2),
-        Meaning::Found(dsfid) => found(dsfid, uid),
-        Meaning::Block(at, n) => block(at, n),
-        Meaning::LockAndBlock(lock, at, n) => locked_block(lock, at, n),
+        Meaning::Found(dsfid) => Told {
+            dsfid,
+            uid,
+            ..bare(3)
+        },
+        Meaning::Block(at, n) => several(4, at, n, 0),
+        Meaning::LockAndBlock(lock, at, n) => {
+            let block = several(5, at, n, 0);
+            Told { lock, ..block }
+        }
         Meaning::Info(d, a, b, s, i) => info(d, a, b, s, i, uid),
-        Meaning::Id(id) => chip_id(id),
-        Meaning::Word(w) => word(w),
-        Meaning::Uid => chip_uid(uid),
+        Meaning::Id(id) => Told { id, ..bare(7) },
+        Meaning::Word(word) => Told { word, ..bare(8) },
+        Meaning::Uid => Told { uid, ..bare(9) },
         Meaning::Blocks(at, n, count) => several(10, at, n, count),
         Meaning::LocksAndBlocks(at, n, count) => several(11, at, n, count),
         Meaning::Locks(at, count) => several(12, at, 1, count),

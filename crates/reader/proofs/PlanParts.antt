@@ -30,10 +30,9 @@ use Rattle.reader.specs.declared.command.ChipTask.TheVariants as p
 use Rattle.reader.specs.declared.command.Command.{Command}
 use Rattle.reader.specs.declared.command.Command.TheVariants.{Inventory, Label, Chip, Other}
 use Rattle.reader.specs.declared.writer.Plan.{Plan}
-use Rattle.reader.specs.declared.writer.Written.{Written}
 use Rattle.reader.specs.Command.{data_fits, chip_fits, valid}
 use Rattle.reader.specs.Request.{uid_part, parameters, params, chip_bytes, inventory_bytes, flags, content, at_front}
-use Rattle.reader.specs.Plan.{parts_of, uid_count, label_plan, short_plan, inventory_plan, chip_plan, plan_of, RangedFamily, RangedChip, Ranged, PlanFits}
+use Rattle.reader.specs.Plan.{low as low_of, parts_of, uid_count, label_plan, short_plan, inventory_plan, chip_plan, plan_of, RangedFamily, RangedChip, Ranged, PlanFits}
 use Rattle.reader.proofs.CommandValid.{valid_inventory, valid_chip, valid_label, marker_small, write_listed, block_long}
 
 -- ---- numbers made of two bytes
@@ -99,11 +98,11 @@ label_parts to option task p uid d r l =
 
 -- ---- chips
 
-pair_parts : (f k n : ℕ) (uid d : List ℕ) → f < 256 → k < 256 → parts_of (short_plan (f + 256 * k) 2 n) uid d ≡ f ∷ k ∷ take n d
+pair_parts : (f k n : ℕ) (uid d : List ℕ) → f < 256 → k < 256 → parts_of (short_plan (low_of (f + 256 * k) 2) n) uid d ≡ f ∷ k ∷ take n d
 unfolding parts_of
 pair_parts f k n uid d hf hk = rw (low f k hf, high f k hf hk)
 
-one_parts : (f : ℕ) (uid d : List ℕ) → f < 256 → parts_of (short_plan f 1 0) uid d ≡ f ∷ []
+one_parts : (f : ℕ) (uid d : List ℕ) → f < 256 → parts_of (short_plan (low_of f 1) 0) uid d ≡ f ∷ []
 unfolding parts_of
 one_parts f uid d h = rw (mod-eq_of_lt h)
 
@@ -166,7 +165,7 @@ label_fits to option task p n room v h =
     let ok = row_fine task in
     record { uid = uid_small to; sent = d.1; whole = omega (arith, uid_small to) }
 
-short_fits : (w k n x room : ℕ) → k ≤ 2 → n ≤ 4 → n ≤ x → 64 ≤ room → PlanFits (short_plan w k n) x room
+short_fits : (w k n x room : ℕ) → k ≤ 2 → n ≤ 4 → n ≤ x → 64 ≤ room → PlanFits (short_plan (low_of w k) n) x room
 short_fits w k n x room a b d h = record { uid = omega arith; sent = d; whole = omega arith }
 
 chip_does_fit : (task : ChipTask) (n room : ℕ) → chip_fits task n ≡ true → 64 ≤ room → PlanFits (chip_plan task n) n room
@@ -201,18 +200,18 @@ plan_fits (Other kind code) n room v h = short_fits 0 0 0 n room (omega arith) (
 -- ---- the straight line of puts, from what each ensures
 
 parts_long : (q : Plan) (uid d : List ℕ) → q.uids ≤ length uid → q.datas ≤ length d
-    → length (parts_of q uid d) ≡ q.heads + q.uids + q.pars + q.masks + q.datas
+    → length (parts_of q uid d) ≡ q.head.bytes + q.uids + q.par.bytes + q.mask.bytes + q.datas
 unfolding parts_of
 parts_long q uid d hu hd = simp (length-append, length_bytes, length-take-le q.uids uid hu, length-take-le q.datas d hd)
 
 pub lay_way : (q : Plan) (uid d old : List ℕ) {x1 x2 x3 x4 x5 x6 : List ℕ} {a1 a2 a3 a4 a5 a6 : ℕ} → PlanFits q (length d) (length old) → length uid ≡ 8
-    → (a1 ≡ 0 + q.heads) × (x1 ≡ sets old 0 (bytes_of q.heads q.head))
+    → (a1 ≡ 0 + q.head.bytes) × (x1 ≡ sets old 0 (bytes_of q.head.bytes q.head.number))
     → (a2 ≡ a1 + q.uids) × (x2 ≡ sets x1 a1 (take q.uids uid))
-    → (a3 ≡ a2 + q.pars) × (x3 ≡ sets x2 a2 (bytes_of q.pars q.par))
-    → (a4 ≡ a3 + q.masks) × (x4 ≡ sets x3 a3 (bytes_of q.masks q.mask))
+    → (a3 ≡ a2 + q.par.bytes) × (x3 ≡ sets x2 a2 (bytes_of q.par.bytes q.par.number))
+    → (a4 ≡ a3 + q.mask.bytes) × (x4 ≡ sets x3 a3 (bytes_of q.mask.bytes q.mask.number))
     → (a5 ≡ a4 + q.datas) × (x5 ≡ sets x4 a4 (take q.datas d))
     → (a6 ≡ a5 + 2) × (x6 ≡ sets x5 a5 (bytes_of 2 (crc_of (take a5 x5))))
-    → (◌≡◌ {A = Written} (record { number = 0; «length» = a6 }) (record { number = 0; «length» = length (framed (parts_of q uid d)) }))
+    → (a6 ≡ length (framed (parts_of q uid d)))
     × (x6 ≡ at_front (framed (parts_of q uid d)) old)
 unfolding parts_of
 lay_way q uid d old ok lu e1 e2 e3 e4 e5 e6 =
@@ -221,10 +220,10 @@ lay_way q uid d old ok lu e1 e2 e3 e4 e5 e6 =
     let l =
     laid_seal 0xFFFF true
     (laid_bytes q.datas d ok.sent
-    (laid_number q.masks q.mask
-    (laid_number q.pars q.par
+    (laid_number q.mask.bytes q.mask.number
+    (laid_number q.par.bytes q.par.number
     (laid_bytes q.uids uid hu
-    (laid_number q.heads q.head (laid_none old) e1) e2) e3) e4) e5)
+    (laid_number q.head.bytes q.head.number (laid_none old) e1) e2) e3) e4) e5)
     (omega arith) e6
     in
-    (ap (λ (k : ℕ). record { number = 0; «length» = k }) l.long, laid_done l (rw length_framed w))
+    (l.long, laid_done l (rw length_framed w))

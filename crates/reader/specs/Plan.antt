@@ -13,13 +13,23 @@ use Rattle.reader.specs.declared.command.ChipTask.{ChipTask}
 use Rattle.reader.specs.declared.command.ChipTask.TheVariants as p
 use Rattle.reader.specs.declared.command.Command.{Command}
 use Rattle.reader.specs.declared.command.Command.TheVariants.{Inventory, Label, Chip, Other}
+use Rattle.reader.specs.declared.writer.Low.{Low}
 use Rattle.reader.specs.declared.writer.Plan.{Plan}
 use Rattle.reader.specs.Request.{flags}
 
+-- the low bytes of a number, so many of them
+abbrev pub low : ℕ → ℕ → Low
+low v k = record { number = v; bytes = k }
+
+abbrev pub none : Low
+none = low 0 0
+
+abbrev pub low_bytes : Low → List ℕ
+low_bytes l = bytes_of l.bytes l.number
+
 -- the parts of a plan, one behind the other
 unfoldable pub parts_of : Plan → List ℕ → List ℕ → List ℕ
-parts_of p uid d =
-    (((bytes_of p.heads p.head ++ take p.uids uid) ++ bytes_of p.pars p.par) ++ bytes_of p.masks p.mask) ++ take p.datas d
+parts_of p uid d = (((low_bytes p.head ++ take p.uids uid) ++ low_bytes p.par) ++ low_bytes p.mask) ++ take p.datas d
 
 abbrev pub uid_count : Target → ℕ
 uid_count Everyone = 0
@@ -29,52 +39,40 @@ uid_count One = 8
 abbrev pub label_plan : Target → Bool → Row → Params → ℕ → Plan
 label_plan to option row p n =
     record {
-      head = flags to option + 256 * row.code;
-      heads = 2;
+      head = low (flags to option + 256 * row.code) 2;
       uids = uid_count to;
-      par = p.first + 256 * p.second;
-      pars = row.len - 4;
-      mask = 0;
-      masks = 0;
+      par = low (p.first + 256 * p.second) (row.len - 4);
+      mask = none;
       datas = (if row.block then n else 0);
     }
 
-abbrev pub short_plan : ℕ → ℕ → ℕ → Plan
-short_plan v heads n = record { head = v; heads = heads; uids = 0; par = 0; pars = 0; mask = 0; masks = 0; datas = n }
+abbrev pub short_plan : Low → ℕ → Plan
+short_plan head n = record { head = head; uids = 0; par = none; mask = none; datas = n }
 
-abbrev pub mask_plan : ℕ → Bool → ℕ → ℕ → ℕ → ℕ → Plan
-mask_plan flags sixteen par pars bits mask =
-    record {
-      head = flags + (if sixteen then 0 else 32) + 256;
-      heads = 2;
-      uids = 0;
-      par = par;
-      pars = pars;
-      mask = mask;
-      masks = bytes_for bits;
-      datas = 0;
-    }
+abbrev pub mask_plan : ℕ → Bool → Low → ℕ → ℕ → Plan
+mask_plan flags sixteen par bits mask =
+    record { head = low (flags + (if sixteen then 0 else 32) + 256) 2; uids = 0; par = par; mask = low mask (bytes_for bits); datas = 0 }
 
 unfoldable pub inventory_plan : Family → Bool → ℕ → ℕ → Plan
-inventory_plan Any sixteen bits mask = mask_plan 6 sixteen bits 1 bits mask
-inventory_plan (Only afi) sixteen bits mask = mask_plan 22 sixteen (afi + 256 * bits) 2 bits mask
+inventory_plan Any sixteen bits mask = mask_plan 6 sixteen (low bits 1) bits mask
+inventory_plan (Only afi) sixteen bits mask = mask_plan 22 sixteen (low (afi + 256 * bits) 2) bits mask
 
 unfoldable pub chip_plan : ChipTask → ℕ → Plan
-chip_plan p.Initiate n = short_plan 0x0006 2 0
-chip_plan p.Pcall n = short_plan 0x0406 2 0
-chip_plan (p.Marker s) n = short_plan (s * 16 + 6) 1 0
-chip_plan (p.Select id) n = short_plan (0x0E + 256 * id) 2 0
-chip_plan p.Completion n = short_plan 0x0F 1 0
-chip_plan p.Reset n = short_plan 0x0C 1 0
-chip_plan (p.Read a) n = short_plan (0x08 + 256 * a) 2 0
-chip_plan p.Uid n = short_plan 0x0B 1 0
-chip_plan (p.Write a) n = short_plan (0x09 + 256 * a) 2 n
+chip_plan p.Initiate n = short_plan (low 0x0006 2) 0
+chip_plan p.Pcall n = short_plan (low 0x0406 2) 0
+chip_plan (p.Marker s) n = short_plan (low (s * 16 + 6) 1) 0
+chip_plan (p.Select id) n = short_plan (low (0x0E + 256 * id) 2) 0
+chip_plan p.Completion n = short_plan (low 0x0F 1) 0
+chip_plan p.Reset n = short_plan (low 0x0C 1) 0
+chip_plan (p.Read a) n = short_plan (low (0x08 + 256 * a) 2) 0
+chip_plan p.Uid n = short_plan (low 0x0B 1) 0
+chip_plan (p.Write a) n = short_plan (low (0x09 + 256 * a) 2) n
 
 unfoldable pub plan_of : Command → ℕ → Plan
 plan_of (Inventory to option family sixteen bits mask) n = inventory_plan family sixteen bits mask
 plan_of (Label to option task p) n = label_plan to option (row_of task) p n
 plan_of (Chip to option task) n = chip_plan task n
-plan_of (Other kind code) n = short_plan 0 0 0
+plan_of (Other kind code) n = short_plan none 0
 
 -- the parameters of one byte are bytes
 unfoldable pub RangedFamily : Family → Type 0
@@ -102,4 +100,4 @@ Ranged (Other kind code) = Unit
 pub record PlanFits (p : Plan) (n room : ℕ) : Type 0 where
   pub uid : p.uids ≤ 8
   pub sent : p.datas ≤ n
-  pub whole : p.heads + p.uids + p.pars + p.masks + p.datas + 2 ≤ room
+  pub whole : p.head.bytes + p.uids + p.par.bytes + p.mask.bytes + p.datas + 2 ≤ room

@@ -1,5 +1,5 @@
 -- Document 01, "Reader's side", and document 02, P2: the bytes of a request, and what the writer leaves. Assumes nothing.
-use Rattle.std.specs.Prelude.{◌≡◌, Bool, List, [], ◌∷◌, ◌++◌, ℕ, ◌+◌, ◌-◌, ◌*◌, eqb, ltb, length, get_or, take, drop, replicate, if◌then◌else◌}
+use Rattle.std.specs.Prelude.{◌≡◌, Bool, List, [], ◌∷◌, ◌++◌, ℕ, ◌+◌, ◌-◌, ◌*◌, eqb, ltb, length, get_or, take, drop, replicate, if◌then◌else◌, Result, Ok, Err}
 use Rattle.frame.specs.Number.{num, bytes_of}
 use Rattle.frame.specs.CheckSum.{framed}
 use Rattle.frame.specs.Ending.{bytes_for}
@@ -21,6 +21,8 @@ use Rattle.reader.specs.declared.command.ChipTask.TheVariants as p
 use Rattle.reader.specs.declared.command.Command.{Command}
 use Rattle.reader.specs.declared.command.Command.TheVariants.{Inventory, Label, Chip, Other}
 use Rattle.reader.specs.declared.writer.Written.{Written}
+use Rattle.frame.specs.Refusal.{refusal_number}
+use Rattle.frame.specs.declared.refusal.Refusal.{Refusal}
 use Rattle.reader.specs.Command.{valid}
 
 -- ---- the bytes. Flag bit 0 clear, bit 1 set
@@ -86,6 +88,11 @@ unfoldable pub written_of : Command → List ℕ → List ℕ → List ℕ → W
 written_of c uid d out =
     if eqb (refusal_of c (length d) (length out)) 0 then record { number = 0; length = length (encode c uid d) }
     else record { number = refusal_of c (length d) (length out); length = 0 }
+
+-- how C is told: 0 and the request's length, or the refusal's number
+abbrev pub written_as : Result ℕ Refusal → Written
+written_as (Ok n) = record { number = 0; length = n }
+written_as (Err why) = record { number = refusal_number why; length = 0 }
 
 -- a frame at the front of a buffer: bytes behind it stay
 abbrev pub at_front : List ℕ → List ℕ → List ℕ

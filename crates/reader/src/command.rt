@@ -1,8 +1,5 @@
 // What a reader can send, and whether there is a request with these fields.
-ghost use Rattle.std.specs.Prelude.{◌≡◌, not, ◌&&◌, eqb, leb};
-ghost use Rattle.request.specs.Table.{option_fits};
-ghost use Rattle.request.specs.Label.{target_fits};
-ghost use Rattle.request.specs.Chip.{listed};
+ghost use Rattle.std.specs.Prelude.{◌≡◌, not, ◌&&◌};
 ghost use Rattle.reader.specs.Command.{everyone, data_fits, range_fits, label_fits, chip_fits, inventory_fits, valid};
 
 use frame::uid::low_bits;
@@ -39,97 +36,41 @@ pub enum Command {
 pub fn is_everyone(to: Target) -> bool
     ensures { result ≡ everyone to }
 {
-    match to {
-        Target::Everyone => true,
-        Target::Selected => false,
-        Target::One => false,
-    }
+    matches!(to, Target::Everyone)
 }
 
-// Whether a block of so many bytes can be sent: 1 to 32.
-fn block_fits(n: usize) -> bool
-    ensures { result ≡ leb 1 n && leb n 32 }
-{
-    if n < 1 {
-        return false;
-    }
-    n <= 32
-}
-
-// Whether so many bytes of data are right for a task: only a block's are looked at.
+// Whether so many bytes of data are right for a task: a block's are 1 to 32, and no others are looked at.
 fn data_fits(row: Row, n: usize) -> bool
     ensures { result ≡ data_fits row n }
 {
-    if row.block {
-        return block_fits(n);
-    }
-    true
+    !row.block || 1 <= n && n <= 32
 }
 
 // Whether the blocks that two parameters name have numbers: a first one, and so many more.
 fn range_fits(row: Row, p: Params) -> bool
     ensures { result ≡ range_fits row p }
 {
-    if row.len < 6 {
-        return true;
-    }
-    p.first as u32 + p.second as u32 <= 255
+    row.len < 6 || p.first as u32 + p.second as u32 <= 255
 }
 
-fn row_fits(row: Row, to: Target, option: bool, p: Params, n: usize) -> bool
-    ensures { result ≡ option_fits row option && (target_fits row to && (data_fits row n && range_fits row p)) }
-{
-    if !option_fits(row, option) {
-        return false;
-    }
-    if !target_fits(row, to) {
-        return false;
-    }
-    if !data_fits(row, n) {
-        return false;
-    }
-    range_fits(row, p)
-}
-
+#[tactic(auto, unfolding(crate::specs::Command::label_fits))]
 fn label_fits(to: Target, option: bool, task: Task, p: Params, n: usize) -> bool
     ensures { result ≡ label_fits to option task p n }
 {
-    row_fits(row_of(task), to, option, p, n)
+    let row = row_of(task);
+    option_fits(row, option) && target_fits(row, to) && data_fits(row, n) && range_fits(row, p)
 }
 
-// Whether a slot marker has this slot: 1 to 15.
-fn slot_fits(s: u8) -> bool
-    ensures { result ≡ leb 1 s && leb s 15 }
-{
-    if s < 1 {
-        return false;
-    }
-    s <= 15
-}
-
-// Whether a chip can be sent so many bytes for an address.
-fn word_fits(a: u8, n: usize) -> bool
-    ensures { result ≡ eqb n 4 && listed a }
-{
-    if n == 4 {
-        return is_listed(a);
-    }
-    false
-}
-
+// Whether a chip can be sent a task and so many bytes: slots are 1 to 15, addresses listed, and a write has four bytes.
+#[tactic(auto, unfolding(crate::specs::Command::chip_fits))]
 fn task_fits(task: ChipTask, n: usize) -> bool
     ensures { result ≡ chip_fits task n }
 {
     match task {
-        ChipTask::Initiate => true,
-        ChipTask::Pcall => true,
-        ChipTask::Marker(s) => slot_fits(s),
-        ChipTask::Select(_) => true,
-        ChipTask::Completion => true,
-        ChipTask::Reset => true,
+        ChipTask::Marker(s) => 1 <= s && s <= 15,
         ChipTask::Read(a) => is_listed(a),
-        ChipTask::Uid => true,
-        ChipTask::Write(a) => word_fits(a, n),
+        ChipTask::Write(a) => n == 4 && is_listed(a),
+        _ => true,
     }
 }
 
@@ -137,39 +78,26 @@ fn task_fits(task: ChipTask, n: usize) -> bool
 fn chip_fits(to: Target, option: bool, task: ChipTask, n: usize) -> bool
     ensures { result ≡ not option && (everyone to && chip_fits task n) }
 {
-    if option {
-        return false;
-    }
-    if is_everyone(to) {
-        return task_fits(task, n);
-    }
-    false
+    !option && is_everyone(to) && task_fits(task, n)
 }
 
 // Whether a mask is no longer than allowed and has no bits above its length.
+#[tactic(auto, unfolding(crate::specs::Command::inventory_fits), using(crate::proofs::CommandWays::mask_kept))]
 fn mask_fits(sixteen: bool, bits: u8, mask: u64) -> bool
     ensures { result ≡ inventory_fits sixteen bits mask }
 {
-    if most_bits(sixteen) < bits {
-        return false;
-    }
-    low_bits(mask, bits as u32) == mask
+    bits <= most_bits(sixteen) && low_bits(mask, bits as u32) == mask
 }
 
 // An Inventory is for everyone, without Option.
 fn inventory_fits(to: Target, option: bool, sixteen: bool, bits: u8, mask: u64) -> bool
     ensures { result ≡ not option && (everyone to && inventory_fits sixteen bits mask) }
 {
-    if option {
-        return false;
-    }
-    if is_everyone(to) {
-        return mask_fits(sixteen, bits, mask);
-    }
-    false
+    !option && is_everyone(to) && mask_fits(sixteen, bits, mask)
 }
 
 // Whether there is a request with these fields, and n bytes of data beside it.
+#[tactic(auto, unfolding(crate::specs::Command::valid))]
 pub fn is_valid(c: Command, n: usize) -> bool
     ensures { result ≡ valid c n }
 {

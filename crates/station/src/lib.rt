@@ -64,6 +64,7 @@ pub extern "C" fn sackbutflare_write_request(
 }
 
 // Reads the answer to a command that was sent with n bytes of data.
+#[tactic(auto, unfolding(face::specs::Told::told_of))]
 #[unsafe(no_mangle)]
 pub extern "C" fn sackbutflare_read_answer(f: Fields, uid: &[u8], n: usize, frame: &[u8]) -> Told
     ensures { result ≡ told_of (reading_of (command_for f (length uid.now)) (uid_of uid.now) n frame.now) }
@@ -71,9 +72,7 @@ pub extern "C" fn sackbutflare_read_answer(f: Fields, uid: &[u8], n: usize, fram
     let c = command_for(f, uid.len());
     let u = uid_of(uid);
     let r = answer::reading::read_answer(c, u, n, frame);
-    let v = r.uid;
-    let meaning = r.meaning;
-    tell(meaning, uid_number(v))
+    tell(r.meaning, uid_number(r.uid))
 }
 
 // The check sum of a frame's bytes, which follows them low byte first.

@@ -7,4 +7,4 @@ use Rattle.reader.proofs.writer.lay.Goals as goal
 pub returns : goal.returns
 returns c =
     lay_way _ c.args.uid _ _ c.requires (search (rules, c.well_formed)) c.put_number-a.ensures c.put_bytes-b.ensures
-    c.put_number-d.ensures c.put_number-e.ensures c.put_bytes-f.ensures c.seal-g.ensures
+    c.put_number-d.ensures c.put_number-e.ensures c.put_bytes-f.ensures c.seal.ensures

@@ -4,7 +4,7 @@ use borrow.Author.Rules.{rules}
 use Rattle.reader.proofs.RequestWays.{short_way, wrong_way, lay_may, right_way}
 use mathlib.Core.Path.{ap}
 use mathlib.Core.Bool.{not}
-use Rattle.reader.proofs.writer.write_request.Goals as goal
+use Rattle.reader.proofs.writer.try_write.Goals as goal
 
 pub returns-then-out-lt-LEAST : goal.returns-then-out-lt-LEAST
 returns-then-out-lt-LEAST c =
@@ -16,9 +16,9 @@ returns-then-not-is_valid c =
 
 pub lay-requires : goal.lay-requires
 lay-requires c =
-    lay_may _ _ _ (ap not c.if-not-is_valid.false) _ _ c.if-out-lt-LEAST.false c.is_valid.ensures c.plan_for-p.ensures
+    lay_may _ _ _ (ap not c.if-not-is_valid.false) _ _ c.if-out-lt-LEAST.false c.is_valid.ensures c.plan_for.ensures
 
 pub returns : goal.returns
 returns c =
     right_way _ _ _ (ap not c.if-not-is_valid.false) c.args.uid _ _ _ _ c.if-out-lt-LEAST.false (search (rules, c.well_formed)) c.is_valid.ensures
-    c.plan_for-p.ensures c.lay.ensures
+    c.plan_for.ensures c.lay.ensures

@@ -1,7 +1,0 @@
--- The numbers given, and those of the meaning alone.
--- Assumes nothing.
-use Rattle.face.proofs.told.found.Goals as goal
-
-pub returns : goal.returns
-returns c =
-    rw c.bare-t.ensures
