@@ -34,8 +34,9 @@ use Rattle.accord.proofs.TagsLabelRead.{label_read, label_bytes}
 use Rattle.accord.proofs.TagsChipRead.{chip_read}
 use Rattle.rack.specs.declared.tag.Said.{Said}
 use Rattle.rack.specs.declared.tag.Said.TheVariants as s
-use Rattle.rack.specs.File as kinds
-use Rattle.rack.specs.File.{Kind, count_of, kind_at, length_at, start_of, body_at, rebuilt, body_rules}
+use Rattle.rack.specs.declared.tag.Kind.TheVariants as kinds
+use Rattle.rack.specs.declared.tag.Kind.{Kind}
+use Rattle.rack.specs.File.{count_of, kind_at, length_at, start_of, body_at, body_rules}
 use Rattle.rack.specs.Facts.{RackFine, TagFine}
 use Rattle.rack.specs.Tag.{Event, aired, next_body, said_by, speaks, frame_of, answer_body}
 use Rattle.rack.proofs.FileVerdict.{rack_fine, fine_rack}

@@ -33,8 +33,9 @@ use Rattle.reader.proofs.CommandValid.{valid_inventory}
 use Rattle.accord.specs.Tags.{label_meaning, bytes_told, bytes_meant, slot_says}
 use Rattle.accord.proofs.TagsLabelRead.{slot_said}
 use Rattle.accord.proofs.TagsChipRead.{chip_read}
-use Rattle.rack.specs.File as kinds
-use Rattle.rack.specs.File.{Kind, count_of, kind_at, length_at, start_of, body_at, rebuilt, body_rules}
+use Rattle.rack.specs.declared.tag.Kind.TheVariants as kinds
+use Rattle.rack.specs.declared.tag.Kind.{Kind}
+use Rattle.rack.specs.File.{count_of, kind_at, length_at, start_of, body_at, rebuilt, body_rules}
 use Rattle.rack.specs.Facts.{TagFine}
 use Rattle.rack.specs.Tag.{aired, said_by, frame_of}
 use Rattle.rack.proofs.FileVerdict.{rack_fine}

@@ -5,3 +5,4 @@ pub mod Demand2Slots
 pub mod MarkedTags
 pub mod MarkedWalks
 pub mod Marked
+pub mod Named

@@ -9,7 +9,7 @@ use lib.Dec.{eqb, ltb, leb}
 use lib.ListN.{length, replicate}
 use lib.Pow.{mod-mod-pow}
 use Rattle.frame.specs.Choose.{gather}
-use Rattle.frame.specs.Judge.{first_of, byte_verdict}
+use Rattle.frame.specs.Judge.{fine, first_of, byte_verdict}
 use Rattle.frame.specs.Number.{Bytes}
 use Rattle.frame.proofs.Bools.{and_both}
 use Rattle.label_body.specs.Locks.{lock_room, locks_verdict}
@@ -83,7 +83,7 @@ uids_k : uids Any rack_k ≡ 0xE000000000000011 ∷ 0xD000000000000011 ∷ []
 unfolding uids_to uid_at takes_part heeds ready load_of passes kind_of gather start_of
 uids_k = refl
 
-well_k : (verdict_of rack_k).number ≡ 0
+well_k : verdict_of rack_k ≡ fine
 unfolding verdict_of head_verdict entry_verdict kind_of length_fits body_verdict body_rules moved end_verdict label_rules head_rules lock_room locks_verdict
     slot_rules mask_verdict over byte_verdict first_of start_of
 well_k = refl
@@ -99,7 +99,7 @@ uids_l : uids Any rack_l ≡ []
 unfolding uids_to gather
 uids_l = refl
 
-well_l : (verdict_of rack_l).number ≡ 0
+well_l : verdict_of rack_l ≡ fine
 unfolding verdict_of head_verdict end_verdict first_of start_of
 well_l = refl
 

@@ -2,6 +2,7 @@
 -- Assumes nothing.
 use Rattle.std.specs.Prelude.{◌≡◌, Bool, true, List, [], ℕ, suc, ◌≤◌, ◌<◌, length, get_or, take}
 use Rattle.frame.specs.Number.{Bytes}
+use Rattle.frame.specs.Judge.{fine}
 use Rattle.request.specs.declared.label.Target.{Target}
 use Rattle.request.specs.declared.label.Family.{Family}
 use Rattle.reader.specs.declared.command.Command.{Command}
@@ -47,7 +48,7 @@ pub record Asked (c : Command) (uid d buffer r ds out : List ℕ) : Type 0 where
   pub uid_long : length uid ≡ 8
   pub written : (written_of c uid d buffer).number ≡ 0
   pub bytes : Bytes r
-  pub well_formed : (verdict_of r).number ≡ 0
+  pub well_formed : verdict_of r ≡ fine
   pub drawn : length ds ≡ count_of r
   pub room : least ≤ length out
 
@@ -87,7 +88,7 @@ Demand2 =
 pub record AskedSlots (to : Target) (option : Bool) (family : Family) (bits mask : ℕ) (d r : List ℕ) (draws outs : PerEvent) : Type 0 where
   pub request : valid (Inventory to option family true bits mask) (length d) ≡ true
   pub bytes : Bytes r
-  pub well_formed : (verdict_of r).number ≡ 0
+  pub well_formed : verdict_of r ≡ fine
   pub drawn : (b m s : ℕ) → length (draws b m s) ≡ count_of r
   pub room : (b m s : ℕ) → least ≤ length (outs b m s)
 

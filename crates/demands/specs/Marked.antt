@@ -2,6 +2,7 @@
 -- (k) and (l) what every such rack gives. Assumes nothing.
 use Rattle.std.specs.Prelude.{◌≡◌, List, [], ◌∷◌, ◌++◌, ℕ, ◌*◌, ◌≤◌, length, get_or, replicate}
 use Rattle.std.proofs.lemmas.List.Edits.{sets}
+use Rattle.frame.specs.Judge.{fine}
 use Rattle.frame.specs.Number.{num, bytes_of, part, Bytes}
 use Rattle.frame.specs.CheckSum.{crc_of, framed}
 use Rattle.label.specs.declared.step.Answer.TheVariants.{Found}
@@ -9,7 +10,8 @@ use Rattle.label_body.specs.Answer.{answer_frame}
 use Rattle.chip_body.specs.Body.{place_of}
 use Rattle.request.specs.declared.label.Family.{Family}
 use Rattle.request.specs.declared.label.Family.TheVariants.{Any}
-use Rattle.rack.specs.File.{Label, Chip, count_of, verdict_of}
+use Rattle.rack.specs.declared.tag.Kind.TheVariants.{Label, Chip}
+use Rattle.rack.specs.File.{count_of, verdict_of}
 use Rattle.rack.specs.Tag.{aired, next_body, answer_body}
 use Rattle.inventory.specs.Endings.{count, ending}
 use Rattle.inventory.specs.Walk.{uids, walk_of}
@@ -56,7 +58,7 @@ pub record Holds (n word x : ℕ) (b : List ℕ) : Type 0 where
 -- a walk that is not refused: a well-formed rack, room for its list, no two labels in state 1 or 3 with one UID
 pub record Walkable (r list : List ℕ) : Type 0 where
   pub bytes : Bytes r
-  pub well_formed : (verdict_of r).number ≡ 0
+  pub well_formed : verdict_of r ≡ fine
   pub room : 8 * count_of r ≤ length list
   pub single : (v : ℕ) → count v (uids Any r) ≤ 1
 

@@ -23,7 +23,8 @@ use Rattle.chip_body.specs.Body.{next_chip, said_chip}
 use Rattle.frame.proofs.Gather.{gather_ext}
 use Rattle.rack.specs.declared.tag.Said.{Said}
 use Rattle.rack.specs.declared.tag.Said.TheVariants as s
-use Rattle.rack.specs.File.{Kind, Label, Chip, Other}
+use Rattle.rack.specs.declared.tag.Kind.{Kind}
+use Rattle.rack.specs.declared.tag.Kind.TheVariants.{Label, Chip, Other}
 use Rattle.rack.specs.File.{count_of, kind_at, body_at}
 use Rattle.rack.specs.Tag.{aired, next_body, said_by, speaks, frame_of, answer_body}
 use Rattle.rack.proofs.FileRebuilt.{rebuilt_ext}

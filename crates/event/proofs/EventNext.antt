@@ -76,7 +76,7 @@ module _ (r : List ℕ) (event : Event) (ds : List ℕ) (ok : RackFine r) where
     next_fine = rebuilt_fine r (next r event ds) ok sized (λ i h. step_keeps (kind_at r i) event (get_or ds i 0) (body_at r i) (stepping i h))
 
 -- the same of verdicts
-pub next_verdict : (r : List ℕ) (event : Event) (ds : List ℕ) → (verdict_of r).number ≡ 0 → Bytes r → Bytes ds → SignalSound event
+pub next_verdict : (r : List ℕ) (event : Event) (ds : List ℕ) → verdict_of r ≡ fine → Bytes r → Bytes ds → SignalSound event
     → verdict_of (next_rack r event ds) ≡ fine
 next_verdict r event ds h b d s = fine_rack (next_rack r event ds) (next_fine r event ds (rack_fine r h) b d s)
 

@@ -24,7 +24,8 @@ use Rattle.label_body.proofs.Floor as label
 use Rattle.chip.specs.Write.{locked, count_down}
 use Rattle.chip_body.specs.Body.{next_chip, block_of}
 use Rattle.chip_body.proofs.Floor as chip
-use Rattle.rack.specs.File.{Kind, Label, Chip}
+use Rattle.rack.specs.declared.tag.Kind.{Kind}
+use Rattle.rack.specs.declared.tag.Kind.TheVariants.{Label, Chip}
 use Rattle.rack.specs.File.{count_of, kind_at, length_at, start_of, body_at}
 use Rattle.rack.specs.Facts.{RackFine, TagFine}
 use Rattle.rack.specs.Tag.{aired, next_body, said_by, speaks, answer_body}

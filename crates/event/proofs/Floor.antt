@@ -21,7 +21,9 @@ use Rattle.label_body.proofs.FactsFine.{long_enough}
 use Rattle.chip.specs.Write.{locked}
 use Rattle.chip_body.specs.Body as chips
 use Rattle.chip_body.proofs.Floor as chip
-use Rattle.rack.specs.File.{Kind, Label, Chip}
+use Rattle.frame.specs.Judge.{fine}
+use Rattle.rack.specs.declared.tag.Kind.{Kind}
+use Rattle.rack.specs.declared.tag.Kind.TheVariants.{Label, Chip}
 use Rattle.rack.specs.File.{count_of, kind_at, length_at, start_of, body_at, contents, verdict_of}
 use Rattle.rack.specs.Facts.{RackFine, TagFine}
 use Rattle.rack.specs.Tag.{Event, aired, next_body}
@@ -54,11 +56,10 @@ module _ (r : List ℕ) (ok : RackFine r) (number : ℕ) (f ds out : List ℕ) w
   contents_left = left_by (λ x. contents x ≡ contents r) r number f ds out (λ i. contents r) (contents_stay r event ds ok)
 
   -- the rack left is well-formed
-  pub left_fine : Bytes r → Bytes f → Bytes ds → (verdict_of left).number ≡ 0
+  pub left_fine : Bytes r → Bytes f → Bytes ds → verdict_of left ≡ fine
   left_fine br bf bd =
-      let old : (verdict_of r).number ≡ 0 = rw (fine_rack r ok) (λ i. 0) in
-      left_by (λ x. (verdict_of x).number ≡ 0) r number f ds out old
-      (rw (next_verdict r event ds old br bd (signal_sound number f bf)) (λ i. 0))
+      let old = fine_rack r ok in
+      left_by (λ x. verdict_of x ≡ fine) r number f ds out old (next_verdict r event ds old br bd (signal_sound number f bf))
 
   module _ (i : ℕ) (h : i < count_of r) where
     abbrev body : List ℕ

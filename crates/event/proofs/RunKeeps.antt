@@ -18,7 +18,9 @@ use Rattle.label_body.proofs.Floor as label
 use Rattle.chip.specs.Write.{locked}
 use Rattle.chip_body.specs.Body.{next_chip, block_of}
 use Rattle.chip_body.proofs.Floor as chip
-use Rattle.rack.specs.File.{Kind, Label, Chip}
+use Rattle.frame.specs.Judge.{fine}
+use Rattle.rack.specs.declared.tag.Kind.{Kind}
+use Rattle.rack.specs.declared.tag.Kind.TheVariants.{Label, Chip}
 use Rattle.rack.specs.File.{count_of, kind_at, body_at, contents, verdict_of}
 use Rattle.rack.specs.Facts.{Fine, TagFine}
 use Rattle.rack.specs.Tag.{Event, aired, next_body}
@@ -78,7 +80,7 @@ held_next old n m event d b s p =
       lock = label.lock_stays r event.bytes b n there p.lock (label_sized b s.fine);
     }
 
-module _ (r : List ℕ) (well_formed : (verdict_of r).number ≡ 0) (bytes : Bytes r) (es : List Happening) where
+module _ (r : List ℕ) (well_formed : verdict_of r ≡ fine) (bytes : Bytes r) (es : List Happening) where
   start : Fine r
   start = record { rack = rack_fine r well_formed; bytes = bytes }
 
@@ -88,8 +90,8 @@ module _ (r : List ℕ) (well_formed : (verdict_of r).number ≡ 0) (bytes : Byt
   ran_fine = (run_keeps (λ x. Unit) (λ x ok e p. tt) r start es tt).1
 
   -- it stays well-formed and made of bytes
-  pub stays_fine : (verdict_of (ran r es)).number ≡ 0
-  stays_fine = rw (fine_rack (ran r es) ran_fine.rack) refl
+  pub stays_fine : verdict_of (ran r es) ≡ fine
+  stays_fine = fine_rack (ran r es) ran_fine.rack
 
   pub stays_bytes : Bytes (ran r es)
   stays_bytes = ran_fine.bytes

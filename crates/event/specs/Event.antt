@@ -1,5 +1,5 @@
 -- Document 01, "Events" and "Numbers a call can come back with": what an event does to a rack, and what it reports. Assumes nothing.
-use Rattle.std.specs.Prelude.{◌≡◌, not, ◌&&◌, List, [], ◌∷◌, ◌++◌, ℕ, eqb, ltb, leb, length, get_or, drop, if◌then◌else◌}
+use Rattle.std.specs.Prelude.{◌≡◌, is_ok, not, ◌&&◌, List, [], ◌∷◌, ◌++◌, ℕ, eqb, ltb, leb, length, get_or, drop, if◌then◌else◌}
 use Rattle.frame.specs.Choose.{gather}
 use Rattle.rack.specs.File.{count_of, kind_at, body_at, rebuilt, verdict_of}
 use Rattle.rack.specs.Tag.{Event, aired, next_body, answer_body}
@@ -58,7 +58,7 @@ least = 8451
 -- the lowest number that applies, for so many draws and so much room in the answer buffer; 0: none
 unfoldable pub refusal_of : List ℕ → ℕ → ℕ → ℕ → ℕ
 refusal_of r number draws room =
-    if not (eqb (verdict_of r).number 0) then 1
+    if not (is_ok (verdict_of r)) then 1
     else if not (eqb draws (count_of r)) then 2
     else if ltb room least then 3
     else if not (leb 1 number && leb number 5) then 4

@@ -1,22 +1,24 @@
 // The event.
-ghost use Rattle.std.specs.Prelude.{◌≡◌, ◌+◌, ◌≤◌, ◌<◌, length};
+ghost use Rattle.std.specs.Prelude.{◌≡◌, ◌≤◌, ◌<◌, length, MatchResult};
 ghost use Rattle.std.proofs.lemmas.List.Edits.{sets};
-ghost use Rattle.frame.specs.Number.{part, splice};
-ghost use Rattle.rack.specs.File.{count_of, kind_of};
-ghost use Rattle.rack.specs.Facts.{RackFine, TagFine, Tellable, body_of};
-ghost use Rattle.rack.specs.Tag.{carrying, next_body, said_by, frame_of};
+ghost use Rattle.frame.specs.Refusal.{refusal_number};
+ghost use Rattle.rack.specs.File.{count_of};
+ghost use Rattle.rack.specs.Facts.{RackFine, Sayable, body_of};
+ghost use Rattle.rack.specs.Tag.{carrying, frame_of};
 ghost use Rattle.event.specs.Event.{next_rack, refusal_of, Replied};
 ghost use Rattle.event.specs.Pass.{PassOf};
 
-use rack::file::{body_of, count, entry_of, judge, kind_of, length_of};
+use frame::refusal::Refusal;
+use rack::file::{entry_of, judge, kind_of, length_of};
 use rack::tag::{Said, speaking, step_tag, write_said};
+use rack::whole::Rack;
 use request::label::data_of;
 use request::signal::{Signal, hear};
 
 // The room that every answer buffer has: that of 256 blocks of 32 bytes, each with its lock.
 pub const LEAST: usize = 8451;
 
-// What an event reports: the refusal's number or 0, how many tags answered, the length of an answer that was alone.
+// What an event reports: the refusal's number or 0, how many tags answered, the length of an answer that was alone. C gets it as it stands.
 #[repr(C)]
 #[derive(Clone, Copy)]
 pub struct Report {
@@ -25,97 +27,102 @@ pub struct Report {
     pub length: usize,
 }
 
-// What a pass over the tags heard: how many answered, and, of an answer that is alone, from whom.
+impl Report {
+    // A refusal: its number, and every other number 0.
+    fn refused(refusal: Refusal) -> Report
+        ensures { result ≡ record { number = refusal_number refusal; answered = 0; length = 0 } }
+    {
+        Report {
+            number: refusal.number(),
+            answered: 0,
+            length: 0,
+        }
+    }
+
+    // No refusal.
+    fn played(answered: u8, length: usize) -> Report
+        ensures { result ≡ record { number = 0; answered = answered; length = length } }
+    {
+        Report {
+            number: 0,
+            answered,
+            length,
+        }
+    }
+}
+
+// What a tag said, and which.
 #[derive(Clone, Copy)]
-struct Pass {
-    answered: u8,
+struct Spoken {
     who: usize,
     said: Said,
 }
 
-// The tag whose body lies at a place for a length takes its step: that part of the rack is lent on, and no other byte changes.
-fn step_at(
-    rack: &mut [u8],
-    at: usize,
-    len: usize,
-    kind: u8,
-    signal: Signal,
-    bytes: &[u8],
-    draw: u8,
-) -> Said
-    requires len_in_bounds { at + len ≤ length rack.old }
-    requires tag_fine { TagFine (kind_of kind) (part at len rack.old) }
-    ensures value { result ≡ said_by (kind_of kind) (carrying signal bytes.now) draw (part at len rack.old) }
-    ensures rack_after { rack.new ≡ splice at len (next_body (kind_of kind) (carrying signal bytes.now) draw (part at len rack.old))
-        rack.old }
-{
-    let end = at + len;
-    step_tag(kind, &mut rack[at..end], signal, bytes, draw)
+// What a pass over the tags heard: how many answered, and the answer that is alone.
+#[derive(Clone, Copy)]
+struct Pass {
+    answered: u8,
+    alone: Option<Spoken>,
 }
 
-// Every tag takes its step in turn: the signal and the bytes are decoded once. Draw i is entry i's.
+// Every tag takes its step in turn, for which its body alone is lent: the signal and the bytes are decoded once. Draw i is entry i's.
 fn play(rack: &mut [u8], signal: Signal, bytes: &[u8], draws: &[u8]) -> Pass
     requires rack_fine { RackFine rack.old }
     requires draws_len { length draws.now ≡ count_of rack.old }
-    ensures pass_of { PassOf rack.old (carrying signal bytes.now) draws.now (count_of rack.old) result.answered result.who
-        result.said }
+    ensures pass_of { PassOf rack.old (carrying signal bytes.now) draws.now (count_of rack.old) result.answered result.alone }
     ensures rack_after { rack.new ≡ next_rack rack.old (carrying signal bytes.now) draws.now }
 {
-    let n = count(rack);
     let mut answered: u8 = 0;
-    let mut who: usize = 0;
-    let mut said = Said::Nothing;
-    let mut at = entry_of(n);
-    let mut i = 0;
-    while i < n {
+    let mut alone = None;
+    let mut at = entry_of(draws.len());
+    for (i, draw) in draws.iter().enumerate() {
         let kind = kind_of(rack, i);
-        let len = length_of(rack, i);
-        let s = step_at(rack, at, len, kind, signal, bytes, draws[i]);
-        if speaking(s) {
-            answered = answered + 1;
-            who = i;
-            said = s;
+        let end = at + length_of(rack, i);
+        let said = step_tag(kind, &mut rack[at..end], signal, bytes, *draw);
+        if speaking(said) {
+            alone = if answered == 0 {
+                Some(Spoken { who: i, said })
+            } else {
+                None
+            };
+            answered += 1;
         }
-        at = at + len;
-        i += 1;
+        at = end;
     }
-    Pass {
-        answered,
-        who,
-        said,
-    }
+    Pass { answered, alone }
 }
 
-// The number of the refusal that applies on a well-formed rack, or 0.
-fn refuse(rack: &[u8], number: u8, draws: usize, room: usize) -> u8
-    requires { RackFine rack.now }
-    ensures { result ≡ refusal_of rack.now number draws room }
+// Whether an event is played on a well-formed rack, or the refusal that applies.
+#[tactic(auto, using(rack::proofs::FileVerdict::fine_rack), unfolding(crate::specs::Event::refusal_of))]
+fn admit(rack: &Rack, number: u8, draws: usize, room: usize) -> Result<(), Refusal>
+    ensures { MatchResult result (λ _. refusal_of rack.now number draws room ≡ 0)
+        (λ refusal. refusal_number refusal ≡ refusal_of rack.now number draws room) }
 {
-    if draws != count(rack) {
-        return 2;
+    if draws != rack.count() {
+        return Err(Refusal::Draws);
     }
     if room < LEAST {
-        return 3;
+        return Err(Refusal::Room);
     }
-    if number < 1 {
-        return 4;
+    if !matches!(number, 1..=5) {
+        return Err(Refusal::Event);
     }
-    if 5 < number {
-        return 4;
-    }
-    0
+    Ok(())
 }
 
-// Tag i's frame opens the answer buffer.
-fn tell(rack: &[u8], i: usize, said: Said, answer: &mut [u8]) -> usize
-    requires { Tellable rack.now i said × (length (frame_of said (body_of rack.now i)) ≤ length answer.old) }
-    ensures { (result ≡ length (frame_of said (body_of rack.now i)))
-        × (answer.new ≡ sets answer.old 0 (frame_of said (body_of rack.now i))) }
+// The frame of an answer opens the answer buffer.
+fn tell(rack: &Rack, by: Spoken, answer: &mut [u8]) -> usize
+    requires there { by.who < count_of rack.now }
+    requires says { Sayable by.said (body_of rack.now by.who) }
+    requires room { length (frame_of by.said (body_of rack.now by.who)) ≤ length answer.old }
+    ensures { (result ≡ length (frame_of by.said (body_of rack.now by.who)))
+        × (answer.new ≡ sets answer.old 0 (frame_of by.said (body_of rack.now by.who))) }
 {
-    write_said(said, body_of(rack, i), answer)
+    write_said(by.said, rack.body(by.who), answer)
 }
 
-// Plays an event on a rack that is known to be well-formed.
+// Plays an event on a rack that is known to be well-formed. `RackFine` is asked where a rack is written, and no type has it there: it would have to be
+// shown anew at each body, which `rebuilt_fine` does once.
 pub fn event_on(
     rack: &mut [u8],
     number: u8,
@@ -127,29 +134,14 @@ pub fn event_on(
     ensures { Replied rack.old number frame.now draws.now answer.old result rack.new
         answer.new }
 {
-    let refusal = refuse(rack, number, draws.len(), answer.len());
-    if refusal != 0 {
-        return Report {
-            number: refusal,
-            answered: 0,
-            length: 0,
-        };
+    if let Err(refusal) = admit(&Rack::of(rack), number, draws.len(), answer.len()) {
+        return Report::refused(refusal);
     }
     let signal = hear(number, frame);
     let pass = play(rack, signal, data_of(frame), draws);
-    if pass.answered != 1 {
-        return Report {
-            number: 0,
-            answered: pass.answered,
-            length: 0,
-        };
-    }
-    let said = pass.said;
-    let n = tell(rack, pass.who, said, answer);
-    Report {
-        number: 0,
-        answered: 1,
-        length: n,
+    match pass.alone {
+        Some(by) => Report::played(pass.answered, tell(&Rack::of(rack), by, answer)),
+        None => Report::played(pass.answered, 0),
     }
 }
 
@@ -158,13 +150,8 @@ pub fn event(rack: &mut [u8], number: u8, frame: &[u8], draws: &[u8], answer: &m
     ensures { Replied rack.old number frame.now draws.now answer.old result rack.new
         answer.new }
 {
-    let v = judge(rack);
-    if v.number != 0 {
-        return Report {
-            number: 1,
-            answered: 0,
-            length: 0,
-        };
+    if judge(rack).is_err() {
+        return Report::refused(Refusal::Rack);
     }
     event_on(rack, number, frame, draws, answer)
 }

@@ -4,7 +4,7 @@
 use mathlib.Core.Path.{◌≡◌, refl, ap, sym, ◌∙◌}
 use mathlib.Core.Bool.{Bool, true}
 use mathlib.Core.List.{List, [], ◌++◌, append-nil}
-use Prim.Native.Nat.{ℕ, suc, ◌+◌, ◌-◌, ◌≤◌, ◌<◌, ◌^◌}
+use Prim.Native.Nat.{ℕ, suc, ◌+◌, ◌≤◌, ◌<◌, ◌^◌}
 use native.Mathlib.Nat.{add-zero}
 use native.Mathlib.Omega.{arith}
 use borrow.Author.Tests.{lt-ltb, le-ltb}
@@ -12,7 +12,6 @@ use lib.Dec.{ltb}
 use lib.ListN.{length, get_or, take, drop, length-append}
 use lib.Seq.{sets, length-sets, drop-drop}
 use Rattle.frame.specs.Choose.{gather}
-use Rattle.frame.specs.Number.{part}
 use Rattle.frame.proofs.Puts.{sets_append}
 use Rattle.frame.proofs.Gather.{gather_ext}
 use Rattle.inventory.specs.Endings.{sum_to}
@@ -25,7 +24,7 @@ use Rattle.inventory.proofs.WalkBridge.{ifs_none, only_none}
 use Rattle.inventory.proofs.NumbersSlots.{slotted_slot, slotted_again}
 use Rattle.inventory.proofs.NumbersListed.{AtSlot, reached_none, reached_end, empty_between, passed}
 use Rattle.inventory.proofs.NumbersListed.{next_low, next_up, reached_next, reached_more, slot_inside}
-use Rattle.inventory.proofs.NumbersListed.{slot_part, lent, slot_size, slot_some, Writing, writing_none, writing_size, writing_pass, writing_room}
+use Rattle.inventory.proofs.NumbersListed.{slot_part, left_over, slot_size, slot_some, Writing, writing_none, writing_size, writing_pass, writing_room}
 use Rattle.inventory.proofs.NumbersListed.{writing_more}
 
 depth_step : (m : ℕ) → m ≤ 60 → depth m ≡ suc (depth (m + 4))
@@ -136,18 +135,18 @@ pub singles_room : (m : ℕ) (us : List ℕ) (cursor n : ℕ) → m ≤ 60 → c
 singles_room m us cursor n h r =
     omega (arith, r, ap length (ap flat (list_step m us h) ∙ flat_append (singles m us) _) ∙ length-append (flat (singles m us)) _)
 
--- the loop's invariant: the slots below one are carried through, and the others stand ahead
-pub record Carried (us : List ℕ) (m : ℕ) (list₀ : List ℕ) (at₀ rounds₀ : ℕ) (now list : List ℕ) (at rounds from : ℕ) : Type 0 where
+-- the loop's invariant: the slots below one are carried through, and the others are left
+pub record Carried (us : List ℕ) (m : ℕ) (list₀ : List ℕ) (at₀ rounds₀ : ℕ) (rest list : List ℕ) (at rounds : ℕ) : Type 0 where
+  pub from : ℕ
+  pub ahead : rest ≡ drop from us
   pub slot : ℕ
   pub reached : AtSlot m us from slot
   pub writing : Writing (branch m us) list₀ at₀ list at slot
   pub counted : rounds ≡ rounds₀ + sum_to slot (trips m us)
-  pub size : length now ≡ length us
-  pub ahead : drop from now ≡ drop from us
 
 module _ {us list : List ℕ} {m cursor : ℕ} {list₀ : List ℕ} {at₀ : ℕ} (k : RoundOver us list m cursor list₀ at₀) where
-  pub carried_none : Carried us m list₀ at₀ 1 us list₀ at₀ 1 0
-  carried_none = record { slot = 0; reached = reached_none m us; writing = writing_none (branch m us) list₀ at₀; counted = refl; size = refl; ahead = refl }
+  pub carried_none : Carried us m list₀ at₀ 1 us list₀ at₀ 1
+  carried_none = record { from = 0; ahead = refl; slot = 0; reached = reached_none m us; writing = writing_none (branch m us) list₀ at₀; counted = refl }
 
   pub last_round : 56 < m
       → (list₀ ≡ sets list cursor (flat (list_of (depth m) m us)))
@@ -174,104 +173,108 @@ module _ {us list : List ℕ} {m cursor : ℕ} {list₀ : List ℕ} {at₀ : ℕ
   calm_trips : (q : ℕ) → length (in_slot m us q) ≤ 1 → trips m us q ≡ 0
   calm_trips q h = ap (λ (t : Bool). only t (rounds_of (depth (m + 4)) (m + 4) (in_slot m us q))) (le-ltb 1 (length (in_slot m us q)) h)
 
-  module _ {now listₛ : List ℕ} {at rounds from : ℕ} (i : Carried us m list₀ at₀ 1 now listₛ at rounds from) where
+  module _ {rest listₛ : List ℕ} {at rounds : ℕ} (i : Carried us m list₀ at₀ 1 rest listₛ at rounds) where
     pub carried_same : length listₛ ≡ length list
     carried_same = writing_size i.writing ∙ list_size
 
     -- on to another slot that starts where the loop is
-    empty : {t : ℕ} (r : AtSlot m us from t) (q : ℕ) → i.slot ≤ q → q < t → length (in_slot m us q) ≤ 1
+    empty : {t : ℕ} (r : AtSlot m us i.from t) (q : ℕ) → i.slot ≤ q → q < t → length (in_slot m us q) ≤ 1
     empty r q h b = omega (arith, ap length (empty_between i.reached r q h b))
 
-    on_writing : {t : ℕ} → AtSlot m us from t → i.slot ≤ t → Writing (branch m us) list₀ at₀ listₛ at t
+    on_writing : {t : ℕ} → AtSlot m us i.from t → i.slot ≤ t → Writing (branch m us) list₀ at₀ listₛ at t
     on_writing r h = writing_pass i.writing (passed i.reached r h (branch m us) (λ q e. calm_branch q (omega (arith, ap length e))))
 
-    on_counted : {t : ℕ} → AtSlot m us from t → i.slot ≤ t → rounds ≡ 1 + sum_to t (trips m us)
+    on_counted : {t : ℕ} → AtSlot m us i.from t → i.slot ≤ t → rounds ≡ 1 + sum_to t (trips m us)
     on_counted {t} r h = omega (arith, i.counted, sum_still t i.slot (trips m us) h (λ q b c. calm_trips q (empty r q b c)))
 
-    pub carried_done : length us ≤ from
+    pub carried_done : length rest ≤ 0
         → (listₛ ≡ sets list cursor (flat (list_of (depth m) m us)))
         × ((at ≡ cursor + length (flat (list_of (depth m) m us))) × (rounds ≡ rounds_of (depth m) m us))
     carried_done h =
-        let r = reached_end i.reached h in
+        let r = reached_end i.reached (omega (arith, h, left_over us i.from i.ahead)) in
         let w = on_writing r i.reached.upto in (
           w.listed ∙ rw (k.listed, k.cursored, whole) (sym (sets_append (flat (singles m us)) (flat (gather 16 (branch m us))) list cursor)),
           (omega (arith, w.cursored, k.cursored, whole_size), on_counted r i.reached.upto ∙ sym (rounds_step m us k.short)),
         )
 
-    module _ (more : from < length us) where
+    module _ (more : 0 < length rest) where
       abbrev t : ℕ
-      t = slot_bits m (get_or us from 0)
+      t = slot_bits m (get_or us i.from 0)
 
-      here : AtSlot m us from t
-      here = reached_next i.reached k.stands more
+      inside : i.from < length us
+      inside = omega (arith, more, left_over us i.from i.ahead)
+
+      here : AtSlot m us i.from t
+      here = reached_next i.reached k.stands inside
 
       low : t < 16
-      low = next_low i.reached k.stands more
+      low = next_low i.reached k.stands inside
 
       up : i.slot ≤ t
-      up = next_up i.reached k.stands more
+      up = next_up i.reached k.stands inside
 
-      module _ {h n : ℕ} (whole-n : n ≡ length now)
-          (e : h ≡ leading m (slot_bits m (get_or (take (n - from) (drop from now)) 0 0)) (take (n - from) (drop from now))) where
+      module _ {h : ℕ} (e : h ≡ leading m (slot_bits m (get_or rest 0 0)) rest) where
         its : h ≡ length (in_slot m us t)
-        its = slot_size k.stands more here (lent now us n from whole-n i.ahead) e
+        its = slot_size k.stands inside here i.ahead e
 
         pub carried_some : 0 < h
-        carried_some = omega (arith, its, slot_some k.stands more here)
+        carried_some = omega (arith, its, slot_some k.stands inside here)
 
-        pub carried_inside : from + h ≤ length us
-        carried_inside = slot_inside here low its
+        pub carried_inside : h ≤ length rest
+        carried_inside = omega (arith, slot_inside here low its, left_over us i.from i.ahead)
 
-        slot_is : part from h now ≡ in_slot m us t
-        slot_is = ap (take h) i.ahead ∙ slot_part here low its k.stands
+        module _ {group behind : List ℕ} (f : group ≡ take h rest) (b : behind ≡ drop h rest) where
+          slot_is : group ≡ in_slot m us t
+          slot_is = f ∙ ap (take h) i.ahead ∙ slot_part here low its k.stands
 
-        collided : 1 < h → collides m us t ≡ true
-        collided c = lt-ltb 1 (length (in_slot m us t)) (omega (arith, c, its))
+          grouped : length group ≡ length (in_slot m us t)
+          grouped = ap length slot_is
 
-        down : 1 < h → branch m us t ≡ list_of (depth (m + 4)) (m + 4) (part from h now)
-        down c =
-            ap (λ (b : Bool). ifs b (list_of (depth (m + 4)) (m + 4) (in_slot m us t))) (collided c)
-            ∙ ap (list_of (depth (m + 4)) (m + 4)) (sym slot_is)
+          collided : 1 < length group → collides m us t ≡ true
+          collided c = lt-ltb 1 (length (in_slot m us t)) (omega (arith, c, grouped))
 
-        down_rounds : 1 < h → trips m us t ≡ rounds_of (depth (m + 4)) (m + 4) (part from h now)
-        down_rounds c =
-            ap (λ (b : Bool). only b (rounds_of (depth (m + 4)) (m + 4) (in_slot m us t))) (collided c)
-            ∙ ap (rounds_of (depth (m + 4)) (m + 4)) (sym slot_is)
+          down : 1 < length group → branch m us t ≡ list_of (depth (m + 4)) (m + 4) group
+          down c =
+              ap (λ (q : Bool). ifs q (list_of (depth (m + 4)) (m + 4) (in_slot m us t))) (collided c)
+              ∙ ap (list_of (depth (m + 4)) (m + 4)) (sym slot_is)
 
-        -- w UIDs are lent, and the rounds so far, with the slot's, are among the whole's
-        module _ (c : 1 < h) {w : ℕ} (v : w ≡ h) where
-          pub carried_few : rounds + rounds_of (depth (m + 4)) (m + 4) (part from w now) < 2 ^ 64
-          carried_few = rw v (omega (arith, k.few, on_counted here up, rounds_step m us k.short, sum_within (suc t) 16 (trips m us) low, down_rounds c))
+          down_rounds : 1 < length group → trips m us t ≡ rounds_of (depth (m + 4)) (m + 4) group
+          down_rounds c =
+              ap (λ (q : Bool). only q (rounds_of (depth (m + 4)) (m + 4) (in_slot m us t))) (collided c)
+              ∙ ap (rounds_of (depth (m + 4)) (m + 4)) (sym slot_is)
 
-          -- what the slot's call asks, of the part that is lent
-          pub carried_asks : m ≤ 56 → (at + length (flat (list_of (depth (m + 4)) (m + 4) (part from w now))) ≤ length listₛ)
-              × ((rounds_of (depth (m + 4)) (m + 4) (part from w now) < 2 ^ 64) × (m + 4 ≤ 60))
-          carried_asks b = (rw (v, ← down c) (writing_room (on_writing here up) low branches_room), (omega (arith, carried_few), omega arith))
+          -- the rounds so far, with the slot's, are among the whole's
+          pub carried_few : 1 < length group → rounds + rounds_of (depth (m + 4)) (m + 4) group < 2 ^ 64
+          carried_few c = omega (arith, k.few, on_counted here up, rounds_step m us k.short, sum_within (suc t) 16 (trips m us) low, down_rounds c)
 
-        step : {now₁ list₁ : List ℕ} {at₁ rounds₁ : ℕ} → length now₁ ≡ length now → drop (from + h) now₁ ≡ drop (from + h) now
-            → list₁ ≡ sets listₛ at (flat (branch m us t)) → at₁ ≡ at + length (flat (branch m us t)) → rounds₁ ≡ rounds + trips m us t
-            → Carried us m list₀ at₀ 1 now₁ list₁ at₁ rounds₁ (from + h)
-        step o d l a r =
-            record {
-              slot = suc t;
-              reached = reached_more here low its;
-              writing = writing_more (on_writing here up) a l;
-              counted = omega (arith, r, on_counted here up);
-              size = o ∙ i.size;
-              ahead = d ∙ sym (drop-drop h from now) ∙ ap (drop h) i.ahead ∙ drop-drop h from us;
-            }
+          -- what the slot's call asks
+          pub carried_asks : 1 < length group → m ≤ 56 → (at + length (flat (list_of (depth (m + 4)) (m + 4) group)) ≤ length listₛ)
+              × ((rounds_of (depth (m + 4)) (m + 4) group < 2 ^ 64) × (m + 4 ≤ 60))
+          carried_asks c q = (rw (← down c) (writing_room (on_writing here up) low branches_room), (omega (arith, carried_few c), omega arith))
 
-        pub carried_hit : 1 < h → {w : ℕ} → w ≡ h → {now₁ list₁ : List ℕ} {at₁ rounds₁ n₁ : ℕ} → length now₁ ≡ length now
-            → drop (from + h) now₁ ≡ drop (from + h) now
-            → (list₁ ≡ sets listₛ at (flat (list_of (depth (m + 4)) (m + 4) (part from w now))))
-            × ((at₁ ≡ at + length (flat (list_of (depth (m + 4)) (m + 4) (part from w now)))) × (n₁ ≡ rounds_of (depth (m + 4)) (m + 4) (part from w now)))
-            → rounds₁ ≡ rounds + n₁ → Carried us m list₀ at₀ 1 now₁ list₁ at₁ rounds₁ (from + h)
-        carried_hit c v o d told r =
-            let e = rw (v, ← down c, ← down_rounds c) at told in
-            step o d e.0 e.1.0 (omega (arith, r, e.1.1))
+          step : {list₁ : List ℕ} {at₁ rounds₁ : ℕ}
+              → list₁ ≡ sets listₛ at (flat (branch m us t)) → at₁ ≡ at + length (flat (branch m us t)) → rounds₁ ≡ rounds + trips m us t
+              → Carried us m list₀ at₀ 1 behind list₁ at₁ rounds₁
+          step l a r =
+              record {
+                from = i.from + h;
+                ahead = b ∙ ap (drop h) i.ahead ∙ drop-drop h i.from us;
+                slot = suc t;
+                reached = reached_more here low its;
+                writing = writing_more (on_writing here up) a l;
+                counted = omega (arith, r, on_counted here up);
+              }
 
-        pub carried_miss : h ≤ 1 → Carried us m list₀ at₀ 1 now listₛ at rounds (from + h)
-        carried_miss c =
-            let b : branch m us t ≡ [] = calm_branch t (omega (arith, its, c)) in
-            let z : trips m us t ≡ 0 = calm_trips t (omega (arith, its, c)) in
-            step refl refl (rw (b, flat_none) refl) (rw (b, flat_none) (sym (add-zero at))) (rw z (sym (add-zero rounds)))
+          pub carried_hit : 1 < length group → {list₁ : List ℕ} {at₁ rounds₁ n₁ : ℕ}
+              → (list₁ ≡ sets listₛ at (flat (list_of (depth (m + 4)) (m + 4) group)))
+              × ((at₁ ≡ at + length (flat (list_of (depth (m + 4)) (m + 4) group))) × (n₁ ≡ rounds_of (depth (m + 4)) (m + 4) group))
+              → rounds₁ ≡ rounds + n₁ → Carried us m list₀ at₀ 1 behind list₁ at₁ rounds₁
+          carried_hit c told r =
+              let e = rw (← down c, ← down_rounds c) at told in
+              step e.0 e.1.0 (omega (arith, r, e.1.1))
+
+          pub carried_miss : length group ≤ 1 → Carried us m list₀ at₀ 1 behind listₛ at rounds
+          carried_miss c =
+              let n : branch m us t ≡ [] = calm_branch t (omega (arith, grouped, c)) in
+              let z : trips m us t ≡ 0 = calm_trips t (omega (arith, grouped, c)) in
+              step (rw (n, flat_none) refl) (rw (n, flat_none) (sym (add-zero at))) (rw z (sym (add-zero rounds)))

@@ -1,6 +1,6 @@
 -- Demand 3 for a rack of bytes: what the walk lists, how many rounds it takes, and the rack it leaves; that draws and answer buffers do not matter;
 -- and that the statement leaves one reply. Idea: `trip_is`, then the counting theorem at four bits a round. Assumes nothing.
-use Rattle.std.specs.Prelude.{if◌then◌else◌}
+use Rattle.std.specs.Prelude.{if◌then◌else◌, is_ok, Ok, Err}
 use mathlib.Core.Path.{◌≡◌, refl, ap, sym, ◌∙◌}
 use mathlib.Core.Bool.{Bool, true, false, not}
 use mathlib.Core.List.{List}
@@ -13,6 +13,7 @@ use lib.Seq.{sets}
 use Rattle.frame.specs.Number.{Bytes}
 use Rattle.request.specs.declared.label.Family.{Family}
 use Rattle.request.specs.declared.label.Family.TheVariants.{Any}
+use Rattle.frame.specs.Judge.{Verdict, fine}
 use Rattle.rack.specs.File.{count_of, verdict_of}
 use Rattle.rack.specs.Facts.{RackFine}
 use Rattle.rack.proofs.FileVerdict.{rack_fine}
@@ -78,7 +79,7 @@ same_trip a b p q n =
     ∙ ap (λ (x : ℕ). record { rack = b.rack; found = b.found; rounds = x }) n
 
 -- With any draws and buffers, others for each event, the events find the same, in as many rounds, and leave the same rack.
-pub any_draws : (r : List ℕ) → Bytes r → (verdict_of r).number ≡ 0 → (draws out : PerEvent)
+pub any_draws : (r : List ℕ) → Bytes r → verdict_of r ≡ fine → (draws out : PerEvent)
     → ((bits mask s : ℕ) → length (draws bits mask s) ≡ count_of r) → ((bits mask s : ℕ) → least ≤ length (out bits mask s))
     → (family : Family) → trip draws out r family ≡ trip (zeros r) blank r family
 any_draws r small well draws out size room family =
@@ -98,17 +99,17 @@ pub record Accepted (r : List ℕ) (room : ℕ) : Type 0 where
 
 pub accepted : (r : List ℕ) (room : ℕ) → refusal_of r room ≡ 0 → Accepted r room
 unfolding refusal_of
-accepted r room = go (eqb (verdict_of r).number 0) refl (ltb room (8 * count_of r)) refl (twins r) refl
+accepted r room = go (verdict_of r) refl (ltb room (8 * count_of r)) refl (twins r) refl
   where
-    go : (p : Bool) → eqb (verdict_of r).number 0 ≡ p → (q : Bool) → ltb room (8 * count_of r) ≡ q → (t : Bool) → twins r ≡ t
-        → ◌≡◌ {A = ℕ} (if not p then 1 else if q then 5 else if t then 6 else 0) 0 → Accepted r room
-    go true e false f false g z = record { fine = rack_fine r (eqb-true (verdict_of r).number 0 e); roomy = ltb-false room (8 * count_of r) f; single = g }
-    go true e false f true g z = absurd (omega (arith, z))
-    go true e true f t g z = absurd (omega (arith, z))
-    go false e q f t g z = absurd (omega (arith, z))
+    go : (v : Verdict) → verdict_of r ≡ v → (q : Bool) → ltb room (8 * count_of r) ≡ q → (t : Bool) → twins r ≡ t
+        → ◌≡◌ {A = ℕ} (if not (is_ok v) then 1 else if q then 5 else if t then 6 else 0) 0 → Accepted r room
+    go (Ok u) e false f false g z = record { fine = rack_fine r e; roomy = ltb-false room (8 * count_of r) f; single = g }
+    go (Ok u) e false f true g z = absurd (omega (arith, z))
+    go (Ok u) e true f t g z = absurd (omega (arith, z))
+    go (Err o) e q f t g z = absurd (omega (arith, z))
 
 -- the three premises of demand 3 are that none applies
-unrefused : (r : List ℕ) (room : ℕ) → Bytes r → (verdict_of r).number ≡ 0 → 8 * count_of r ≤ room → Distinct (uids Any r) → refusal_of r room ≡ 0
+unrefused : (r : List ℕ) (room : ℕ) → Bytes r → verdict_of r ≡ fine → 8 * count_of r ≤ room → Distinct (uids Any r) → refusal_of r room ≡ 0
 unfolding refusal_of
 unrefused r room small well roomy alone =
     rw (well, le-ltb room (8 * count_of r) roomy, none_twins r (record { rack = rack_fine r well; bytes = small }) alone) refl
@@ -155,7 +156,7 @@ promise r small family list h =
 
 -- Demand 3 in its own words: well-formed, room for the list, and no two labels in state 1 or 3 share a UID.
 pub demand_3 : (r : List ℕ) → Bytes r → (family : Family) (list : List ℕ)
-    → (verdict_of r).number ≡ 0 → 8 * count_of r ≤ length list → ((v : ℕ) → count v (uids Any r) ≤ 1)
+    → verdict_of r ≡ fine → 8 * count_of r ≤ length list → ((v : ℕ) → count v (uids Any r) ≤ 1)
     → ((walk_of r family list).report.number ≡ 0)
     × Promise family r (walk_of r family list).rack list (walk_of r family list).list (walk_of r family list).report
 demand_3 r small family list well roomy alone =

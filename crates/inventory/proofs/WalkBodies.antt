@@ -1,14 +1,14 @@
 -- Any tag's body through a round: a label's is `during`, any other stays. Idea: by the kind, each law is the label's own or that of a body that
 -- stays. Assumes nothing.
 use Rattle.std.specs.Prelude.{if◌then◌else◌}
-use mathlib.Core.Path.{◌≡◌, refl, ap}
+use mathlib.Core.Path.{◌≡◌, refl}
 use mathlib.Core.Bool.{Bool, true, false, ◌&&◌}
 use mathlib.Core.List.{List, [], ◌∷◌}
 use Prim.Native.Nat.{ℕ, suc, ◌^◌, ◌≤◌, ◌<◌}
 use lib.ListN.{length}
 use Rattle.frame.specs.Number.{part, Bytes}
 use Rattle.frame.specs.Ending.{ends_in_slot}
-use Rattle.frame.specs.declared.verdict.Verdict.{Verdict}
+use Rattle.frame.specs.Judge.{fine}
 use Rattle.label_body.specs.Answer as label
 use Rattle.label_body.specs.Answer.{answer_frame}
 use Rattle.label_body.specs.Facts.{LabelFine}
@@ -20,7 +20,8 @@ use Rattle.label.specs.declared.step.Answer.TheVariants.{Silent, Found}
 use Rattle.label_body.proofs.FactsFine.{rules_fine, fine_rules}
 use Rattle.label_body.proofs.Slots.{first, step, last, said_first, said_step, during_fine, during_bytes, during_uid, during_length}
 use Rattle.label_body.proofs.Slots.{clear_fine, clear_bytes, clear_uid, clear_length, clear_clear, takes_clear}
-use Rattle.rack.specs.File.{Kind, Label, Chip, Other}
+use Rattle.rack.specs.declared.tag.Kind.{Kind}
+use Rattle.rack.specs.declared.tag.Kind.TheVariants.{Label, Chip, Other}
 use Rattle.rack.specs.File.{body_rules}
 use Rattle.rack.specs.Tag.{Event, carrying, next_body, said_by, speaks, frame_of, answer_body}
 use Rattle.inventory.proofs.WalkSent.{signal}
@@ -30,7 +31,7 @@ use Rattle.inventory.proofs.WalkChips.{ignored, ignored_said}
 -- a body of a well-formed rack
 pub record TagOk (kind : Kind) (b : List ℕ) : Type 0 where
   pub small : Bytes b
-  pub rules : (body_rules kind b).number ≡ 0
+  pub rules : body_rules kind b ≡ fine
 
 label_ok : {b : List ℕ} → TagOk Label b → LabelFine b
 unfolding body_rules
@@ -120,12 +121,12 @@ during_part family bits mask s Label b = during_uid family bits mask s b
 during_part family bits mask s Chip b = refl
 during_part family bits mask s Other b = refl
 
-label_rules : {b : List ℕ} → Bytes b → LabelFine b → (body_rules Label b).number ≡ 0
+label_rules : {b : List ℕ} → Bytes b → LabelFine b → body_rules Label b ≡ fine
 unfolding body_rules
-label_rules {b} small ok = ap (λ (v : Verdict). v.number) (fine_rules b small ok)
+label_rules {b} small ok = fine_rules b small ok
 
 pub during_rules : {kind : Kind} {b : List ℕ} → TagOk kind b → (family : Family) (bits mask s : ℕ) → bits ≤ 60 → mask < 2 ^ bits → s ≤ 15
-    → (body_rules kind (during_body family bits mask s kind b)).number ≡ 0
+    → body_rules kind (during_body family bits mask s kind b) ≡ fine
 unfolding during_body
 during_rules {kind = Label} {b} ok family bits mask s short low h =
     label_rules (during_bytes family bits mask s b ok.small short h) (during_fine family bits mask s b ok.small (label_ok ok) short low h)

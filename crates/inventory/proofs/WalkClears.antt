@@ -1,25 +1,28 @@
 -- The cleared rack, as a round leaves it, and the pass over the tags that clears it. Idea: `cleared` is `rebuilt` of cleared bodies, and the rack so far
 -- is contents, cleared bodies, and the rest. Assumes nothing.
 use mathlib.Core.Path.{◌≡◌, refl, ap, sym, ◌∙◌}
-use mathlib.Core.Bool.{true}
 use mathlib.Core.List.{List, ◌++◌, append_assoc, append-nil}
-use Prim.Native.Nat.{ℕ, ◌+◌, ◌≤◌, ◌<◌}
+use Prim.Native.Nat.{ℕ, ◌+◌, ◌-◌, ◌≤◌, ◌<◌}
+use native.Mathlib.Nat.{add-sub_cancel_left}
 use native.Mathlib.Omega.{arith}
+use borrow.Rule.Slice.PartMut.{put_mid, same_len_mid}
 use lib.ListN.{length, take, drop, take-append-drop}
 use lib.Seq.{take_at, drop-drop, drop-length}
 use Rattle.frame.specs.Choose.{gather}
 use Rattle.frame.specs.Number.{part, splice}
 use Rattle.frame.proofs.Lists.{gather_none, gather_more}
 use Rattle.request.specs.declared.label.Family.{Family}
-use Rattle.rack.specs.File.{Kind}
-use Rattle.rack.specs.File.{count_of, entry_at, kind_at, length_at, start_of, body_at, contents, rebuilt, length_fits}
+use Rattle.label_body.specs.Slots.{clear}
+use Rattle.rack.specs.declared.tag.Kind.{Kind}
+use Rattle.rack.specs.declared.tag.Kind.TheVariants.{Label, Chip, Other}
+use Rattle.rack.specs.File.{count_of, entry_at, kind_at, length_at, start_of, body_at, contents, rebuilt}
 use Rattle.inventory.specs.Walk.{uid_at, uids_to, uids, clear_body, cleared}
 use Rattle.frame.proofs.Gather.{gather_ext}
-use Rattle.rack.proofs.FilePlaces.{part_at, splice_at, start_none, start_more, kind_same, length_same}
+use Rattle.rack.proofs.FilePlaces.{part_at, splice_at, span_part, start_none, start_more, kind_same, length_same}
 use Rattle.rack.proofs.FileRebuilt.{contents_length, body_inside, body_long, front_length}
 use Rattle.rack.proofs.FileRebuilt.{rebuilt_bytes, rebuilt_ext, rebuilt_count, rebuilt_kind, rebuilt_body, rebuilt_again}
 use Rattle.inventory.proofs.WalkBodies.{clear_size, clear_twice, clear_uid_at, clear_ok}
-use Rattle.inventory.proofs.WalkEvents.{Fine, tag, rebuilt_fine}
+use Rattle.inventory.proofs.WalkEvents.{Fine, tag, tag_long, rebuilt_fine}
 
 -- ---- the cleared rack: well-formed, with the same UIDs, and left as it is by the next round
 
@@ -62,6 +65,12 @@ module _ (r : List ℕ) where
         (clear_twice (kind_at r i) (body_at r i)))
 
 -- ---- the pass
+
+clear_kept : (kind : Kind) (b : List ℕ) → (kind ≡ Label → ⊥) → clear_body kind b ≡ b
+unfolding clear_body
+clear_kept Label b z = absurd (z refl)
+clear_kept Chip b z = refl
+clear_kept Other b z = refl
 
 module _ (r : List ℕ) where
   abbrev front : ℕ → List ℕ
@@ -111,14 +120,20 @@ module _ {r xs : List ℕ} {at i : ℕ} (k : Clearing r xs at i) (fine : Fine r)
       kept : kind ≡ kind_at r i
       kept = e ∙ kind_same r xs contents_same i h
 
-      pub clearing_asks : (at + len ≤ length xs) × (length_fits kind len ≡ true)
-      clearing_asks =
-          (omega (arith, k.place, real l, k.same, body_inside r fine.rack.whole i h), rw (kept, real l) (fine.rack.entry i h).fits)
+      pub clearing_inside : at + len ≤ length xs
+      clearing_inside = omega (arith, k.place, real l, k.same, body_inside r fine.rack.whole i h)
 
       clearing_part : part at len xs ≡ body_at r i
       clearing_part = rw (real l, k.place, k.is) (part_at (front r i) (drop (start_of r i) r) (start_of r i) (length_at r i) reaches)
 
-      pub clearing_more : {ys : List ℕ} → ys ≡ splice at len (clear_body kind (part at len xs)) xs → length ys ≡ length xs → Clearing r ys (at + len) (i + 1)
+      -- the part that is lent
+      lent : take ((at + len) - at) (drop at xs) ≡ part at len xs
+      lent = span_part at len xs
+
+      pub clearing_long : 32 ≤ length (take ((at + len) - at) (drop at xs))
+      clearing_long = rw (lent, clearing_part, body_long r fine.rack.whole i h) (omega (arith, tag_long r fine.rack i h))
+
+      clearing_more : {ys : List ℕ} → ys ≡ splice at len (clear_body kind (part at len xs)) xs → length ys ≡ length xs → Clearing r ys (at + len) (i + 1)
       clearing_more {ys} b n =
           record {
             upto = omega arith;
@@ -128,3 +143,16 @@ module _ {r xs : List ℕ} {at i : ℕ} (k : Clearing r xs at i) (fine : Fine r)
             same = n ∙ k.same;
             place = omega (arith, k.place, real l, start_more r i);
           }
+
+      pub clearing_label : kind ≡ Label → {b : List ℕ} → b ≡ clear (take ((at + len) - at) (drop at xs)) → length b ≡ length (take ((at + len) - at) (drop at xs))
+          → Clearing r (put_mid at ((at + len) - at) xs b) (at + len) (i + 1)
+      unfolding clear_body
+      clearing_label z {b} c n =
+          clearing_more (rw (z, c, add-sub_cancel_left at len) refl) (same_len_mid at ((at + len) - at) xs b n)
+
+      pub clearing_other : (kind ≡ Label → ⊥) → Clearing r xs (at + len) (i + 1)
+      clearing_other z =
+          clearing_more
+          (sym (ap (λ (b : List ℕ). splice at len b xs) (clear_kept kind (part at len xs) z)
+          ∙ ap (λ (b : List ℕ). take at xs ++ b) (take-append-drop len (drop at xs)) ∙ take-append-drop at xs))
+          refl

@@ -16,7 +16,9 @@ use Rattle.request.specs.declared.label.Family.{Family}
 use Rattle.request.specs.declared.label.Family.TheVariants.{Any, Only}
 use Rattle.request.specs.declared.label.Call.TheVariants.{Inventory, EndOfFrame}
 use Rattle.request.specs.Chip as chips
-use Rattle.rack.specs.File.{Kind, Label, Chip, Other}
+use Rattle.frame.specs.Judge.{fine}
+use Rattle.rack.specs.declared.tag.Kind.{Kind}
+use Rattle.rack.specs.declared.tag.Kind.TheVariants.{Label, Chip, Other}
 use Rattle.rack.specs.File.{count_of, kind_at, length_at, start_of, body_at, rebuilt, length_fits, body_rules}
 use Rattle.rack.specs.Facts.{RackFine}
 pub use Rattle.rack.specs.Facts.{Fine}
@@ -48,7 +50,7 @@ tag r ok i h = record { small = bytes_part (start_of r i) (length_at r i) r ok.b
 
 -- other bodies of the same lengths that keep their rules
 pub rebuilt_fine : (r : List ℕ) (g : ℕ → List ℕ) → RackFine r
-    → ((i : ℕ) → i < count_of r → (length (g i) ≡ length_at r i) × ((body_rules (kind_at r i) (g i)).number ≡ 0)) → RackFine (rebuilt r g)
+    → ((i : ℕ) → i < count_of r → (length (g i) ≡ length_at r i) × (body_rules (kind_at r i) (g i) ≡ fine)) → RackFine (rebuilt r g)
 rebuilt_fine r g ok h =
     rebuilt.rebuilt_fine r g ok (λ i b. (h i b).0) (λ i b. record { fits = rw (h i b).0 (ok.entry i b).fits; rules = (h i b).1 })
 

@@ -25,7 +25,8 @@ use Rattle.label_body.specs.Slots.{uid_of, takes_part}
 use Rattle.request.specs.declared.label.Family.{Family}
 use Rattle.request.specs.declared.label.Family.TheVariants.{Any}
 use Rattle.label.specs.declared.step.Answer.TheVariants.{Found}
-use Rattle.rack.specs.File.{Kind, Label, Chip, Other}
+use Rattle.rack.specs.declared.tag.Kind.{Kind}
+use Rattle.rack.specs.declared.tag.Kind.TheVariants.{Label, Chip, Other}
 use Rattle.rack.specs.File.{count_of, kind_at, body_at}
 use Rattle.label_body.proofs.Slots.{found_frame}
 use Rattle.frame.proofs.Gather.{gather_ext}

@@ -3,3 +3,4 @@ pub mod Endings
 pub mod Walk
 pub mod Promise
 pub mod Numbers
+pub mod Listed

@@ -1,5 +1,5 @@
 -- Document 01, "Walk": the events sent to the rack in turn, and what the walk makes of their replies. Assumes nothing.
-use Rattle.std.specs.Prelude.{Bool, true, false, not, List, [], ◌∷◌, ◌++◌, ℕ, zero, suc, ◌+◌, ◌-◌, ◌*◌, ◌/◌, eqb, ltb, leb, length, get_or, replicate, if◌then◌else◌}
+use Rattle.std.specs.Prelude.{is_ok, Bool, true, false, not, List, [], ◌∷◌, ◌++◌, ℕ, zero, suc, ◌+◌, ◌-◌, ◌*◌, ◌/◌, eqb, ltb, leb, length, get_or, replicate, if◌then◌else◌}
 use Rattle.std.proofs.lemmas.List.Edits.{sets}
 use Rattle.frame.specs.Choose.{gather}
 use Rattle.frame.specs.Number.{bytes_of, part}
@@ -8,7 +8,8 @@ use Rattle.frame.specs.Ending.{longer, bytes_for}
 use Rattle.label_body.specs.Slots.{uid_of, takes_part, clear}
 use Rattle.request.specs.declared.label.Family.{Family}
 use Rattle.request.specs.declared.label.Family.TheVariants.{Any, Only}
-use Rattle.rack.specs.File.{Kind, Label, Chip, Other}
+use Rattle.rack.specs.declared.tag.Kind.{Kind}
+use Rattle.rack.specs.declared.tag.Kind.TheVariants.{Label, Chip, Other}
 use Rattle.rack.specs.File.{count_of, kind_at, body_at, rebuilt, verdict_of}
 use Rattle.event.specs.Event.{Outcome, least, event_of}
 use Rattle.inventory.specs.declared.walk.Walked.{Walked}
@@ -111,7 +112,7 @@ twins r = leb 1 (length (shared 64 (uids Any r)))
 -- the lowest number that applies, for so much room in the list; 0: none
 unfoldable pub refusal_of : List ℕ → ℕ → ℕ
 refusal_of r room =
-    if not (eqb (verdict_of r).number 0) then 1
+    if not (is_ok (verdict_of r)) then 1
     else if ltb room (8 * count_of r) then 5
     else if twins r then 6
     else 0

@@ -1,71 +1,89 @@
 // The UIDs of the labels that take part, as numbers.
-ghost use Rattle.std.specs.Prelude.{◌≡◌, true, ◌+◌, ◌≤◌, ◌<◌, length};
-ghost use Rattle.std.proofs.lemmas.List.Edits.{sets};
+ghost use Rattle.std.specs.Prelude.{◌≡◌, [], ◌∷◌, ◌++◌, ◌<◌, length};
 ghost use Rattle.request.specs.declared.label.Family.TheVariants.{Any};
-ghost use Rattle.rack.specs.File.{Label, kind_of, length_fits};
-ghost use Rattle.rack.specs.Facts.{RackFine};
-ghost use Rattle.inventory.specs.Walk.{uid_at, uids};
-ghost use Rattle.inventory.specs.Numbers.{First};
+ghost use Rattle.inventory.specs.Walk.{uids};
 
 use label_body::body::{takes_part, uid_of};
-use rack::file::{count, entry_of, kind_of, length_of};
-use rack::tag::LABEL;
+use rack::tag::Kind;
+use rack::whole::Rack;
 use request::label::Family;
+use std::marker::Model;
 
-// A label's UID goes to place n, if the label takes part.
-fn take_label(body: &[u8], family: Family, us: &mut [u64], n: usize) -> usize
-    requires { (32 ≤ length body.now) × (n < length us.old) }
-    ensures value { result ≡ n + length (uid_at family Label body.now) }
-    ensures us_after { us.new ≡ sets us.old n (uid_at family Label body.now) }
-{
-    if !takes_part(body, family) {
-        return n;
-    }
-    us[n] = uid_of(body);
-    n + 1
+// Some UIDs, at most one for each tag that a rack can have.
+#[derive(Drop)]
+pub struct Uids {
+    all: [u64; 64],
+    count: usize,
 }
 
-// A tag's UID goes to place n, if the tag is a label that takes part.
-fn take_uid(kind: u8, body: &[u8], family: Family, us: &mut [u64], n: usize) -> usize
-    requires { (length_fits (kind_of kind) (length body.now) ≡ true) × (n < length us.old) }
-    ensures value { result ≡ n + length (uid_at family (kind_of kind) body.now) }
-    ensures us_after { us.new ≡ sets us.old n (uid_at family (kind_of kind) body.now) }
-{
-    if kind == LABEL {
-        return take_label(body, family, us, n);
-    }
-    n
+impl Model for Uids {
+    ghost use Rattle.std.specs.Prelude.{ℕ, List, take, ◌≤◌};
+
+    ghost Value = { List ℕ };
+
+    ghost view = { λ s. take s.count s.all };
+
+    ghost invariant = { λ s. s.count ≤ 64 };
 }
 
-// The UIDs in the order of the rack. Gives how many.
-pub fn collect(rack: &[u8], family: Family, us: &mut [u64]) -> usize
-    requires rack_fine { RackFine rack.now }
-    requires in_bounds { 64 ≤ length us.old }
-    ensures { First (uids family rack.now) us.new result }
-{
-    let tags = count(rack);
-    let mut at = entry_of(tags);
-    let mut n: usize = 0;
-    let mut i = 0;
-    while i < tags {
-        let kind = kind_of(rack, i);
-        let end = at + length_of(rack, i);
-        n = take_uid(kind, &rack[at..end], family, us, n);
-        at = end;
-        i += 1;
+impl Uids {
+    pub fn new() -> Self
+        ensures { result ≡ [] }
+    {
+        Uids {
+            all: [0; 64],
+            count: 0,
+        }
     }
-    n
+
+    fn clear(&mut self)
+        ensures { self.new ≡ [] }
+    {
+        self.count = 0;
+    }
+
+    fn push(&mut self, u: u64)
+        requires { length self.old < 64 }
+        ensures { self.new ≡ self.old ++ u ∷ [] }
+    {
+        self.all[self.count] = u;
+        self.count += 1;
+    }
+
+    pub fn as_slice(&self) -> &[u64]
+        ensures { result.now ≡ self.now }
+    {
+        &self.all[..self.count]
+    }
+
+    pub fn as_mut_slice(&mut self) -> &mut [u64]
+        ensures { result.now ≡ self.old }
+    {
+        &mut self.all[..self.count]
+    }
 }
 
-// Of the UIDs of all labels that take part, those of the labels that the family lets answer. Gives how many.
-pub fn narrow(rack: &[u8], family: Family, us: &mut [u64], all: usize) -> usize
-    requires rack_fine { RackFine rack.now }
-    requires in_bounds { 64 ≤ length us.old }
-    requires first { First (uids Any rack.now) us.old all }
-    ensures { First (uids family rack.now) us.new result }
+// The UIDs in the order of the rack.
+#[tactic(auto, using(crate::proofs::NumbersGathered::gathered))]
+pub fn collect(rack: &Rack, family: Family, us: &mut Uids)
+    ensures { us.new ≡ uids family rack.now }
+{
+    us.clear();
+    for i in 0..rack.count() {
+        let body = rack.body(i);
+        if rack.kind(i) == Kind::Label && takes_part(body, family) {
+            us.push(uid_of(body));
+        }
+    }
+}
+
+// Of the UIDs of all labels that take part, those of the labels that the family lets answer.
+pub fn narrow(rack: &Rack, family: Family, us: &mut Uids)
+    requires { us.old ≡ uids Any rack.now }
+    ensures { us.new ≡ uids family rack.now }
 {
     match family {
-        Family::Any => all,
+        Family::Any => {}
         Family::Only(_) => collect(rack, family, us),
     }
 }

@@ -1,13 +1,13 @@
 -- A rack that is not well-formed is refused; any other is played. Assumes nothing.
-use mathlib.Core.Path.{sym, ◌∙◌, ap}
-use Rattle.frame.specs.declared.verdict.Verdict.{Verdict}
-use Rattle.frame.proofs.Judge.{not_none}
+use Rattle.std.proofs.Common.{rules, ◌≡◌, sym, ◌∙◌}
+use Rattle.frame.specs.Judge.{fine}
+use Rattle.frame.specs.declared.refusal.Refusal.TheVariants.{Rack}
 use Rattle.rack.proofs.FileVerdict.{rack_fine}
-use Rattle.event.proofs.EventOutcomes.{gives_1, shows_refused}
+use Rattle.event.proofs.EventOutcomes.{gives_bad, shows_refused}
 use Rattle.event.proofs.call.event.Goals as goal
 
-pub returns-then-v-ne0 : goal.returns-then-v-ne0
-returns-then-v-ne0 c = shows_refused _ _ _ _ _ 1 (gives_1 _ _ _ _ _ c.judge-v.ensures c.if-v-ne0.true) (not_none 0)
+pub returns-then-is_err : goal.returns-then-is_err
+returns-then-is_err c = rw c.refused.ensures (shows_refused _ _ _ _ _ Rack (gives_bad _ _ _ _ (λ e. let f : c.judge.result ≡ fine = c.judge.ensures ∙ e in search rules)))
 
 pub event_on-requires : goal.event_on-requires
-event_on-requires c = rack_fine _ (ap (λ (v : Verdict). v.number) (sym c.judge-v.ensures) ∙ c.if-v-ne0.false)
+event_on-requires c = let f : c.judge.result ≡ fine = search rules in rack_fine _ (sym c.judge.ensures ∙ f)

@@ -1,41 +1,48 @@
--- Refused, or played: then by whether exactly one answered.
--- Assumes nothing.
-use mathlib.Core.Path.{◌≡◌, sym, ◌∙◌}
-use lib.ListN.{length}
+-- Refused, or played: then by whether exactly one answered. Assumes nothing.
+use Rattle.std.proofs.Common.{rules, ◌≡◌}
 use Rattle.frame.specs.Number.{Bytes}
 use Rattle.rack.specs.Tag.{carrying, aired}
-use Rattle.event.specs.Event.{refusal_of}
-use Rattle.event.proofs.EventOutcomes.{Playable, playable, event_is, shows_refused, shows_silent, tellable, fits_told, shows_alone}
+use Rattle.event.proofs.EventOutcomes.{playable, event_is, rack_left, there_still, says_still, shows_refused, shows_silent, fits_told, shows_alone}
 use Rattle.event.proofs.call.event_on.Goals as goal
 
-pub returns-then-refusal-ne0 : goal.returns-then-refusal-ne0
-returns-then-refusal-ne0 c = shows_refused _ _ _ _ _ _ c.refuse-refusal.ensures c.if-refusal-ne0.true
+pub returns-in-Err : goal.returns-in-Err
+returns-in-Err c = let e = rw c.of.ensures at c.in-Err.ensures in rw c.refused.ensures (shows_refused _ _ _ _ _ c.in-Err.refusal e)
 
-pub play-pass-requires : goal.play-pass-requires
-play-pass-requires c =
-    let none : refusal_of c.args.rack.now c.args.number (length c.args.draws.now) (length c.args.answer.now) ≡ 0 = sym c.refuse-refusal.ensures ∙ c.if-refusal-ne0.false in
-    let may : Playable c.args.rack.now c.args.number (length c.args.draws.now) (length c.args.answer.now) = playable _ _ _ _ none in
-    let m = may in record { rack_fine = m.rack; draws_len = m.drawn }
+pub play-pass-requires-clause-draws_len : goal.play-pass-requires-clause-draws_len
+play-pass-requires-clause-draws_len c =
+    let may = playable _ _ _ _ (rw c.of.ensures at c.in_default.ensures) in
+    may.drawn
 
-pub returns-then-pass-ne1 : goal.returns-then-pass-ne1
-returns-then-pass-ne1 c =
-    let none : refusal_of c.args.rack.now c.args.number (length c.args.draws.now) (length c.args.answer.now) ≡ 0 = sym c.refuse-refusal.ensures ∙ c.if-refusal-ne0.false in
+pub of-requires-in-Some : goal.of-requires-in-Some
+of-requires-in-Some c =
+    let is = event_is _ _ _ _ c.hear-signal.ensures c.data_of.ensures in
+    rack_left _ _ _ _ _ _ c.requires (search rules) (search rules) (search rules) is c.play-pass.ensures.rack_after
+
+pub tell-requires : goal.tell-requires
+tell-requires c =
+    let may = playable _ _ _ _ (rw c.of.ensures at c.in_default.ensures) in
+    let bytes : Bytes c.args.rack.now = search rules in
+    let by = rw c.in-Some.is at c.play-pass.ensures.pass_of.alone in
+    let x = c.play-pass.ensures.rack_after in
+    rw c.of-in-Some.ensures
+    (record {
+      there = there_still _ _ _ c.requires _ _ _ by.1 x;
+      says = says_still _ _ _ c.requires _ _ _ by.1 x;
+      room = fits_told _ _ _ c.requires _ _ _ by.1 x bytes may.space;
+    })
+
+pub returns-in-Some : goal.returns-in-Some
+returns-in-Some c =
+    let bytes : Bytes c.args.rack.now = search rules in
     let is : carrying c.hear-signal.result c.data_of.result.now ≡ aired c.args.number c.args.frame.now = event_is _ _ _ _ c.hear-signal.ensures c.data_of.ensures in
-    shows_silent _ _ _ _ _ none _ is _ _ _ _ c.play-pass.ensures.pass_of c.play-pass.ensures.rack_after c.if-pass-ne1.true
+    let by = rw c.in-Some.is at c.play-pass.ensures.pass_of.alone in
+    let t = rw c.of-in-Some.ensures at c.tell.ensures in
+    let none = rw c.of.ensures at c.in_default.ensures in
+    rw c.played.ensures (shows_alone _ _ _ _ _ none _ is _ _ c.play-pass.ensures.pass_of.count c.play-pass.ensures.rack_after bytes by.0 _ _ by.1 _ _ t.0 t.1)
 
-pub tell-n-requires : goal.tell-n-requires
-tell-n-requires c =
-    let none : refusal_of c.args.rack.now c.args.number (length c.args.draws.now) (length c.args.answer.now) ≡ 0 = sym c.refuse-refusal.ensures ∙ c.if-refusal-ne0.false in
-    let may : Playable c.args.rack.now c.args.number (length c.args.draws.now) (length c.args.answer.now) = playable _ _ _ _ none in
-    let bytes : Bytes c.args.rack.now = λ i. (c.slice_known-1.given i).fits in
-    let m = may in
-    let a = c.play-pass.ensures.pass_of.alone c.if-pass-ne1.false in
-    (tellable _ _ _ m.rack _ _ _ a c.play-pass.ensures.rack_after, fits_told _ _ _ m.rack _ _ _ a c.play-pass.ensures.rack_after bytes m.space)
-
-pub returns : goal.returns
-returns c =
-    let none : refusal_of c.args.rack.now c.args.number (length c.args.draws.now) (length c.args.answer.now) ≡ 0 = sym c.refuse-refusal.ensures ∙ c.if-refusal-ne0.false in
-    let bytes : Bytes c.args.rack.now = λ i. (c.slice_known-1.given i).fits in
+pub returns-in-None : goal.returns-in-None
+returns-in-None c =
     let is : carrying c.hear-signal.result c.data_of.result.now ≡ aired c.args.number c.args.frame.now = event_is _ _ _ _ c.hear-signal.ensures c.data_of.ensures in
-    let t = c.tell-n.ensures in
-    shows_alone _ _ _ _ _ none _ is _ _ _ _ c.play-pass.ensures.pass_of c.play-pass.ensures.rack_after bytes c.if-pass-ne1.false _ _ t.0 t.1
+    let alone = rw c.in-None.is at c.play-pass.ensures.pass_of.alone in
+    let none = rw c.of.ensures at c.in_default.ensures in
+    rw c.played-in-None.ensures (shows_silent _ _ _ _ _ none _ is _ _ c.play-pass.ensures.pass_of.count c.play-pass.ensures.rack_after alone)

@@ -1,10 +1,6 @@
 -- At the loop's head none of the first i is one of those behind it.
-use Prim.Native.Nat.{◌-◌}
 use Rattle.inventory.proofs.NumbersRepeated.{Comparing}
 use Rattle.inventory.proofs.twins.has_twins.Given as goal
 
 abbrev pub invariant-loop-i : goal.invariant-loop-i
 invariant-loop-i l = Comparing l.us l.i
-
-abbrev pub decreases-loop-i : goal.decreases-loop-i
-decreases-loop-i l = l.n - l.i

@@ -1,95 +1,94 @@
--- Once the round is over (`k`), each slot's end is inside the UIDs, and what its call asks and says is of the part that is lent.
-use mathlib.Core.Path.{refl, sym, ◌∙◌}
-use native.Mathlib.Nat.{add-sub_cancel_left}
-use native.Mathlib.Omega.{arith}
-use Prim.Native.Nat.{◌+◌, ◌-◌, ◌≤◌}
-use lib.ListN.{length}
-use borrow.Rule.Slice.PartMut.{same_len_mid, mid_len, drop_put}
+-- Once the round is over (`k`), each slot is among the UIDs that are left, and what its call asks and says is of that part.
+use Rattle.std.proofs.Common.{rules, arith, refl, ◌<◌, ◌≤◌, ◌∙◌, length}
 use Rattle.inventory.proofs.NumbersBranches.{round_over, answers, singles_room, carried_none, last_round}
 use Rattle.inventory.proofs.NumbersBranches.{carried_done, carried_some, carried_inside, carried_asks, carried_few, carried_hit, carried_miss}
 use Rattle.inventory.proofs.walk.+carry.Goals as goal
+use Rattle.inventory.proofs.walk.+carry.Goals.{then-group-gt1, else-group-gt1}
 
-pub play_round-at-requires : goal.play_round-at-requires
-play_round-at-requires t c =
-    singles_room c.args.bits c.args.us.now c.args.cursor (length c.args.list.now) c.requires.mask c.requires.room
+pub play_round-requires : goal.play_round-requires
+play_round-requires t c =
+    singles_room c.args.bits c.args.us.now c.args.list.now.at (length c.args.list.now.bytes.now) c.requires.mask c.requires.room
 
 pub returns-then-bits-gt56 : goal.returns-then-bits-gt56
 returns-then-bits-gt56 t c =
-    let k = round_over c.args.bits c.args.us.now c.play_round-at.ensures.us_after c.args.list.now c.args.cursor
-    (c.requires.room, (c.requires.few, c.requires.mask)) (c.play_round-at.ensures.value, c.play_round-at.ensures.list_after) in
-    let p = answers c.args.bits c.args.us.now c.play_round-at.ensures.us_after c.args.list.now c.args.cursor
-    (c.requires.room, (c.requires.few, c.requires.mask)) (last_round k c.if-bits-gt56.true) in
-    record { list = p.0; cursor = p.1.0; rounds = p.1.1 }
+    let a = c.args in
+    let r = c.play_round.ensures in
+    let k = round_over a.bits a.us.now r.us_after a.list.now.bytes.now a.list.now.at (c.requires.room, (c.requires.few, c.requires.mask))
+    (r.list_after.on, r.list_after.laid) in
+    let p = answers a.bits a.us.now r.us_after a.list.now.bytes.now a.list.now.at (c.requires.room, (c.requires.few, c.requires.mask)) (last_round k c.if-bits-gt56.true) in
+    record { list = record { laid = p.0; on = p.1.0; same = r.list_after.same }; rounds = p.1.1 }
 
-pub loop-from-init : goal.loop-from-init
-loop-from-init t c =
-    let k = round_over c.args.bits c.args.us.now c.play_round-at.ensures.us_after c.args.list.now c.args.cursor
-    (c.requires.room, (c.requires.few, c.requires.mask)) (c.play_round-at.ensures.value, c.play_round-at.ensures.list_after) in
-    carried_none k
+pub loop-rest-init : goal.loop-rest-init
+loop-rest-init t c =
+    let a = c.args in
+    let r = c.play_round.ensures in
+    let k = round_over a.bits a.us.now r.us_after a.list.now.bytes.now a.list.now.at (c.requires.room, (c.requires.few, c.requires.mask))
+    (r.list_after.on, r.list_after.laid) in
+    record { carried = carried_none k; same = refl }
 
-pub overflow_add-to : goal.overflow_add-to
-overflow_add-to t c =
-    let k = round_over c.args.bits c.args.us.now c.play_round-at.ensures.us_after c.args.list.now c.args.cursor
-    (c.requires.room, (c.requires.few, c.requires.mask)) (c.play_round-at.ensures.value, c.play_round-at.ensures.list_after) in
-    let i = c.loop-from.invariant in
-    let within : c.loop-from.from + c.leading-h.result ≤ length c.play_round-at.new.us = carried_inside k i c.loop-from-test.true (sym i.size) c.leading-h.ensures in
-    omega (arith, within, c.play_round-at.auto.us, c.well_formed.0)
+pub split_at_mut-group-requires : goal.split_at_mut-group-requires
+split_at_mut-group-requires t c =
+    let a = c.args in
+    let r = c.play_round.ensures in
+    let k = round_over a.bits a.us.now r.us_after a.list.now.bytes.now a.list.now.at (c.requires.room, (c.requires.few, c.requires.mask))
+    (r.list_after.on, r.list_after.laid) in
+    let more : 0 < length c.loop-rest.rest.now = search rules in
+    carried_inside k c.loop-rest.invariant.carried more c.leading-h.ensures
 
-pub slice_bounds-carry-end : goal.slice_bounds-carry-end
-slice_bounds-carry-end t c =
-    let k = round_over c.args.bits c.args.us.now c.play_round-at.ensures.us_after c.args.list.now c.args.cursor
-    (c.requires.room, (c.requires.few, c.requires.mask)) (c.play_round-at.ensures.value, c.play_round-at.ensures.list_after) in
-    let i = c.loop-from.invariant in
-    let within : c.loop-from.from + c.leading-h.result ≤ length c.play_round-at.new.us = carried_inside k i c.loop-from-test.true (sym i.size) c.leading-h.ensures in
-    omega (arith, within, i.size)
-
-pub carry-went-requires : goal.carry-went-requires
-carry-went-requires t c =
-    let k = round_over c.args.bits c.args.us.now c.play_round-at.ensures.us_after c.args.list.now c.args.cursor
-    (c.requires.room, (c.requires.few, c.requires.mask)) (c.play_round-at.ensures.value, c.play_round-at.ensures.list_after) in
-    let i = c.loop-from.invariant in
-    (omega (arith, c.requires.mask), carried_asks k i c.loop-from-test.true (sym i.size) c.leading-h.ensures (omega (arith, c.if-h-gt1.true)) (add-sub_cancel_left c.loop-from.from c.leading-h.result) c.if-bits-gt56.false)
+pub carry-rounds-requires : goal.carry-rounds-requires
+carry-rounds-requires t c =
+    let a = c.args in
+    let r = c.play_round.ensures in
+    let k = round_over a.bits a.us.now r.us_after a.list.now.bytes.now a.list.now.at (c.requires.room, (c.requires.few, c.requires.mask))
+    (r.list_after.on, r.list_after.laid) in
+    let more : 0 < length c.loop-rest.rest.now = search rules in
+    let p = carried_asks k c.loop-rest.invariant.carried more c.leading-h.ensures c.split_at_mut-group.ensures.front c.split_at_mut-group.ensures.back c.if-group-gt1.true c.if-bits-gt56.false in
+    (omega (arith, c.requires.mask), p)
 
 pub overflow_add-rounds : goal.overflow_add-rounds
 overflow_add-rounds t c =
-    let k = round_over c.args.bits c.args.us.now c.play_round-at.ensures.us_after c.args.list.now c.args.cursor
-    (c.requires.room, (c.requires.few, c.requires.mask)) (c.play_round-at.ensures.value, c.play_round-at.ensures.list_after) in
-    let i = c.loop-from.invariant in
-    omega (arith, c.carry-went.ensures.rounds, carried_few k i c.loop-from-test.true (sym i.size) c.leading-h.ensures (omega (arith, c.if-h-gt1.true)) (add-sub_cancel_left c.loop-from.from c.leading-h.result))
+    let a = c.args in
+    let r = c.play_round.ensures in
+    let k = round_over a.bits a.us.now r.us_after a.list.now.bytes.now a.list.now.at (c.requires.room, (c.requires.few, c.requires.mask))
+    (r.list_after.on, r.list_after.laid) in
+    let more : 0 < length c.loop-rest.rest.now = search rules in
+    omega (arith, c.carry-rounds.ensures.rounds, carried_few k c.loop-rest.invariant.carried more c.leading-h.ensures c.split_at_mut-group.ensures.front c.split_at_mut-group.ensures.back c.if-group-gt1.true)
 
-pub loop-from-preserved-then-h-gt1 : goal.loop-from-preserved-then-h-gt1
-loop-from-preserved-then-h-gt1 t c =
-    let k = round_over c.args.bits c.args.us.now c.play_round-at.ensures.us_after c.args.list.now c.args.cursor
-    (c.requires.room, (c.requires.few, c.requires.mask)) (c.play_round-at.ensures.value, c.play_round-at.ensures.list_after) in
-    let i = c.loop-from.invariant in
-    let within : c.loop-from.from + c.leading-h.result ≤ length c.play_round-at.new.us = carried_inside k i c.loop-from-test.true (sym i.size) c.leading-h.ensures in
-    let a = c.loop-from in
-    let h = c.leading-h.result in
-    let w = c.carry-went in
-    let o : a.from + h ≤ length a.us = omega (arith, within, i.size) in
-    carried_hit k i c.loop-from-test.true (sym i.size) c.leading-h.ensures (omega (arith, c.if-h-gt1.true)) (add-sub_cancel_left c.loop-from.from c.leading-h.result)
-    (same_len_mid a.from (a.from + h - a.from) a.us w.new.us w.auto.us)
-    (drop_put a.from (a.from + h) a.us w.new.us (omega arith) o (w.auto.us ∙ mid_len a.from (a.from + h) a.us o))
-    (w.ensures.list, (w.ensures.cursor, w.ensures.rounds)) refl
+pub loop-rest-smaller : goal.loop-rest-smaller
+loop-rest-smaller t c =
+    let a = c.args in
+    let r = c.play_round.ensures in
+    let k = round_over a.bits a.us.now r.us_after a.list.now.bytes.now a.list.now.at (c.requires.room, (c.requires.few, c.requires.mask))
+    (r.list_after.on, r.list_after.laid) in
+    let more : 0 < length c.loop-rest.rest.now = search rules in
+    omega (arith, carried_some k c.loop-rest.invariant.carried more c.leading-h.ensures, c.split_at_mut-group.ensures.back_len)
 
-pub loop-from-smaller : goal.loop-from-smaller
-loop-from-smaller t c =
-    let k = round_over c.args.bits c.args.us.now c.play_round-at.ensures.us_after c.args.list.now c.args.cursor
-    (c.requires.room, (c.requires.few, c.requires.mask)) (c.play_round-at.ensures.value, c.play_round-at.ensures.list_after) in
-    let i = c.loop-from.invariant in
-    omega (arith, c.loop-from-test.true, carried_some k i c.loop-from-test.true (sym i.size) c.leading-h.ensures)
-
-pub loop-from-preserved : goal.loop-from-preserved
-loop-from-preserved t c =
-    let k = round_over c.args.bits c.args.us.now c.play_round-at.ensures.us_after c.args.list.now c.args.cursor
-    (c.requires.room, (c.requires.few, c.requires.mask)) (c.play_round-at.ensures.value, c.play_round-at.ensures.list_after) in
-    let i = c.loop-from.invariant in
-    carried_miss k i c.loop-from-test.true (sym i.size) c.leading-h.ensures c.if-h-gt1.false
+pub loop-rest-preserved : goal.loop-rest-preserved
+loop-rest-preserved t c =
+    let a = c.args in
+    let r = c.play_round.ensures in
+    let k = round_over a.bits a.us.now r.us_after a.list.now.bytes.now a.list.now.at (c.requires.room, (c.requires.few, c.requires.mask))
+    (r.list_after.on, r.list_after.laid) in
+    let more : 0 < length c.loop-rest.rest.now = search rules in
+    let i = c.loop-rest.invariant in
+    elim c.if-group-gt1.branch [
+      | then-group-gt1 w ↦
+          let e = w.carry-rounds.ensures in
+          rw (w.list-is, w.rounds-is)
+          (record {
+            carried = carried_hit k i.carried more c.leading-h.ensures c.split_at_mut-group.ensures.front c.split_at_mut-group.ensures.back w.if-group-gt1.true (e.list.laid, (e.list.on, e.rounds)) refl;
+            same = e.list.same ∙ i.same;
+          })
+      | else-group-gt1 w ↦
+          rw (w.list-is, w.rounds-is) (record { carried = carried_miss k i.carried more c.leading-h.ensures c.split_at_mut-group.ensures.front c.split_at_mut-group.ensures.back w.if-group-gt1.false; same = i.same })
+    ]
 
 pub returns : goal.returns
 returns t c =
-    let k = round_over c.args.bits c.args.us.now c.play_round-at.ensures.us_after c.args.list.now c.args.cursor
-    (c.requires.room, (c.requires.few, c.requires.mask)) (c.play_round-at.ensures.value, c.play_round-at.ensures.list_after) in
-    let p = answers c.args.bits c.args.us.now c.play_round-at.ensures.us_after c.args.list.now c.args.cursor
-    (c.requires.room, (c.requires.few, c.requires.mask)) (carried_done k c.loop-from.invariant c.loop-from-test.false) in
-    record { list = p.0; cursor = p.1.0; rounds = p.1.1 }
+    let a = c.args in
+    let r = c.play_round.ensures in
+    let k = round_over a.bits a.us.now r.us_after a.list.now.bytes.now a.list.now.at (c.requires.room, (c.requires.few, c.requires.mask))
+    (r.list_after.on, r.list_after.laid) in
+    let none : length c.loop-rest.rest.now ≤ 0 = search rules in
+    let p = answers a.bits a.us.now r.us_after a.list.now.bytes.now a.list.now.at (c.requires.room, (c.requires.few, c.requires.mask)) (carried_done k c.loop-rest.invariant.carried none) in
+    record { list = record { laid = p.0; on = p.1.0; same = c.loop-rest.invariant.same ∙ r.list_after.same }; rounds = p.1.1 }
