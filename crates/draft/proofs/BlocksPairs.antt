@@ -1,8 +1,8 @@
 -- A step along a run of pairs, and a buffer of zeros. Assumes nothing.
-use mathlib.Core.Path.{◌≡◌, refl, ap, sym, ◌∙◌}
-use mathlib.Core.Bool.{Bool, true, false}
+use mathlib.Core.Path.{◌≡◌, refl, ap, ◌∙◌}
+use mathlib.Core.Bool.{true, false}
 use mathlib.Core.List.{List, ◌∷◌}
-use Prim.Native.Nat.{ℕ, zero, suc, ◌-◌, ◌≤◌, ◌<◌}
+use Prim.Native.Nat.{ℕ, zero, suc, ◌+◌, ◌-◌, ◌≤◌, ◌<◌}
 use native.Mathlib.Omega.{arith}
 use native.Mathlib.Nat.{sub-zero}
 use borrow.Author.Tests.{eq-eqb, ne_eqb}
@@ -11,32 +11,30 @@ use Rattle.text.specs.Runs.{is_gap}
 use Rattle.verbs.specs.Data.{place_of}
 use Rattle.draft.specs.Blocks.{pairs_left, pair_at}
 
--- ---- of so many steps left one is taken
+-- ---- of so many steps one is taken: a gap is passed, or the pair is found, or a pair is passed
 
-module _ (s : List ℕ) (at n left : ℕ) {fin c : ℕ} {gap : Bool}
-    (h : 0 < left) (e : pair_at left s at n ≡ fin) (f : c ≡ get_or s at 0) (g : gap ≡ is_gap c) where
-  one : pair_at (suc (left - 1)) s at n ≡ fin
-  one = let l : suc (left - 1) ≡ left = omega arith in ap (λ (k : ℕ). pair_at k s at n) l ∙ e
+step : (all i : ℕ) → i < all → all - i ≡ suc (all - (i + 1))
+step all i h = omega arith
 
-  test : is_gap (get_or s at 0) ≡ gap
-  test = ap is_gap (sym f) ∙ sym g
-
-  pub pair_gap : {to : ℕ} → gap ≡ true → to ≡ place_of at 1 → pair_at (left - 1) s to n ≡ fin
-  unfolding pair_at
-  pair_gap q p = rw p (sym (rw (test ∙ q)) ∙ one)
-
-  pub pair_here : gap ≡ false → n ≡ 0 → at ≡ fin
-  unfolding pair_at
-  pair_here q z = sym (rw (test ∙ q, eq-eqb n 0 z)) ∙ one
-
-  pub pair_on : {to next b m : ℕ} → gap ≡ false → (n ≡ 0 → ⊥) → next ≡ place_of at 1 → b ≡ get_or s next 0 → m ≡ pairs_left b n
-      → to ≡ place_of at 2 → pair_at (left - 1) s to m ≡ fin
-  unfolding pair_at
-  pair_on q z i j k p = rw (p, k, j, i) (sym (rw (test ∙ q, ne_eqb n 0 z)) ∙ one)
-
-pub pair_end : (s : List ℕ) (at n left : ℕ) {fin : ℕ} → left ≤ 0 → pair_at left s at n ≡ fin → at ≡ fin
+pub pair_gap : (all i : ℕ) (s : List ℕ) (at n : ℕ) → i < all → is_gap (get_or s at 0) ≡ true
+    → pair_at (all - (i + 1)) s (place_of at 1) n ≡ pair_at (all - i) s at n
 unfolding pair_at
-pair_end s at n left h e = let z : left ≡ 0 = omega arith in rw z at e
+pair_gap all i s at n h g = rw (step all i h, g)
+
+pub pair_here : (all i : ℕ) (s : List ℕ) (at n : ℕ) → i < all → is_gap (get_or s at 0) ≡ false → n ≡ 0 → pair_at (all - i) s at n ≡ at
+unfolding pair_at
+pair_here all i s at n h g z = rw (step all i h, g, eq-eqb n 0 z)
+
+pub pair_on : (all i : ℕ) (s : List ℕ) (at n : ℕ) → i < all → is_gap (get_or s at 0) ≡ false → (n ≡ 0 → ⊥)
+    → pair_at (all - (i + 1)) s (place_of at 2) (pairs_left (get_or s (place_of at 1) 0) n) ≡ pair_at (all - i) s at n
+unfolding pair_at
+pair_on all i s at n h g z = rw (step all i h, g, ne_eqb n 0 z)
+
+pub pair_none : (all i : ℕ) (s : List ℕ) (at n : ℕ) → all ≤ i → pair_at (all - i) s at n ≡ at
+unfolding pair_at
+pair_none all i s at n h = let e : all - i ≡ 0 = omega arith in rw e
+
+pub ruleset steps = (pair_gap, pair_here, pair_on, pair_none)
 
 -- ---- the front of zeros are zeros
 

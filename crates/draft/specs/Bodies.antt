@@ -1,6 +1,6 @@
--- Bodies of tags as they are made. Every definition is total: what has no room in a buffer is left out. A kind is 1 for a label and 2 for a chip.
+-- Bodies of tags as they are made. Every definition is total: what has no room in a buffer is left out. What is no label is made as a chip.
 -- Assumes nothing.
-use Rattle.std.specs.Prelude.{◌≡◌, Bool, true, List, [], ◌∷◌, ℕ, ◌+◌, ◌*◌, eqb, ltb, leb, length, get_or, set, replicate, if◌then◌else◌}
+use Rattle.std.specs.Prelude.{◌≡◌, Bool, true, List, [], ◌∷◌, ℕ, ◌+◌, ◌*◌, eqb, ltb, leb, length, get_or, set, replicate, if◌then◌else◌, Result, Ok, Err}
 use Rattle.std.proofs.lemmas.List.Edits.{sets}
 use Rattle.frame.specs.Choose.{bit}
 use Rattle.label.specs.declared.step.Label.{Label}
@@ -9,7 +9,9 @@ use Rattle.label_body.specs.Body as label
 use Rattle.chip.specs.declared.step.Chip.{Chip}
 use Rattle.chip_body.specs.Body as chip
 use Rattle.verbs.specs.Data.{place_of}
-use Rattle.draft.specs.declared.words.Read.{Read}
+use Rattle.draft.specs.declared.words.Why.{Why}
+use Rattle.rack.specs.declared.tag.Kind.{Kind}
+use Rattle.rack.specs.declared.tag.Kind.TheVariants as kind
 use Rattle.draft.specs.declared.bodies.Edit.{Edit}
 use Rattle.draft.specs.declared.bodies.Edit.TheVariants.{State, Afi, Dsfid, Slot, Mask}
 use Rattle.draft.specs.declared.bodies.ChipEdit.{ChipEdit}
@@ -17,17 +19,22 @@ use Rattle.draft.specs.declared.bodies.ChipEdit.TheVariants as c
 
 -- ---- what was read of a line, and the body then
 
-pub record Draft : Type 0 where
-  pub read : Read
+pub record Draft (A : Type 0) : Type 0 where
+  pub read : Result A Why
   pub body : List ℕ
 
-abbrev pub draft : Read → List ℕ → Draft
+abbrev pub draft : {A : Type 0} → Result A Why → List ℕ → Draft A
 draft read body = record { read = read; body = body }
 
 -- a function returned that, and left its buffer so
-pub record Drafts (x : Draft) (r : Read) (new : List ℕ) : Type 0 where
+pub record Drafts {A : Type 0} (x : Draft A) (r : Result A Why) (new : List ℕ) : Type 0 where
   pub tells : r ≡ x.read
   pub leaves : new ≡ x.body
+
+-- what was read is taken into the body, or else the body stays
+abbrev pub taken : {A B : Type 0} → Result A Why → (A → Draft B) → List ℕ → Draft B
+taken (Ok x) next b = next x
+taken (Err why) next b = draft (Err why) b
 
 -- ---- fields
 
@@ -74,27 +81,44 @@ new_label uid b = set (sets (sets (cleared b) 0 uid) 11 (27 ∷ 3 ∷ [])) 15 25
 unfoldable pub new_chip : List ℕ → List ℕ → List ℕ
 new_chip uid b = sets (sets (sets (cleared b) 0 (replicate 28 255)) 64 (replicate 4 255)) 68 uid
 
-unfoldable pub new_tag : ℕ → List ℕ → List ℕ → List ℕ
-new_tag kind uid b = if eqb kind 1 then new_label uid b else new_chip uid b
+unfoldable pub new_tag : Kind → List ℕ → List ℕ → List ℕ
+new_tag kind.Label uid b = new_label uid b
+new_tag kind.Chip uid b = new_chip uid b
+new_tag kind.Other uid b = new_chip uid b
 
 -- ---- blocks
 
 -- how many bytes a block has: a label's byte 12 is one less
-unfoldable pub block_size : ℕ → List ℕ → ℕ
-block_size kind b = if eqb kind 1 then get_or b 12 0 + 1 else 4
+unfoldable pub block_size : Kind → List ℕ → ℕ
+block_size kind.Label b = get_or b 12 0 + 1
+block_size kind.Chip b = 4
+block_size kind.Other b = 4
 
 -- a label's last block is byte 11; a chip has blocks 0 to 15 and 255
-unfoldable pub has_block : ℕ → List ℕ → ℕ → Bool
-has_block kind b n = if eqb kind 1 then leb n (get_or b 11 0) else if ltb n 16 then true else eqb n 255
+unfoldable pub has_block : Kind → List ℕ → ℕ → Bool
+has_block kind.Label b n = leb n (get_or b 11 0)
+has_block kind.Chip b n = if ltb n 16 then true else eqb n 255
+has_block kind.Other b n = if ltb n 16 then true else eqb n 255
 
-unfoldable pub block_place : ℕ → List ℕ → ℕ → ℕ
-block_place kind b n = if ltb (length b) 32 then 0 else if eqb kind 1 then label.block_at b n else chip.place_of n
+abbrev pub place_in : Kind → List ℕ → ℕ → ℕ
+place_in kind.Label b n = label.block_at b n
+place_in kind.Chip b n = chip.place_of n
+place_in kind.Other b n = chip.place_of n
+
+unfoldable pub block_place : Kind → List ℕ → ℕ → ℕ
+block_place kind b n = if ltb (length b) 32 then 0 else place_in kind b n
 
 -- a block's bytes, and a label's lock of it, from 32 on
-unfoldable pub set_block : ℕ → ℕ → List ℕ → ℕ → List ℕ → List ℕ
-set_block kind n bytes lock b =
-    let laid = sets b (block_place kind b n) bytes in if eqb kind 1 then set laid (32 + n) lock else laid
+abbrev pub with_lock : Kind → ℕ → ℕ → List ℕ → List ℕ
+with_lock kind.Label n lock b = set b (32 + n) lock
+with_lock kind.Chip n lock b = b
+with_lock kind.Other n lock b = b
+
+unfoldable pub set_block : Kind → ℕ → List ℕ → ℕ → List ℕ → List ℕ
+set_block kind n bytes lock b = with_lock kind n lock (sets b (block_place kind b n) bytes)
 
 -- how long a body is: up to the end of a label's last block
-unfoldable pub body_length : ℕ → List ℕ → ℕ
-body_length kind b = if eqb kind 1 then place_of (block_place kind b (get_or b 11 0)) (block_size kind b) else 80
+unfoldable pub body_length : Kind → List ℕ → ℕ
+body_length kind.Label b = place_of (block_place kind.Label b (get_or b 11 0)) (block_size kind.Label b)
+body_length kind.Chip b = 80
+body_length kind.Other b = 80

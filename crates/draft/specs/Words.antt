@@ -1,22 +1,18 @@
 -- What the words of a rack's text say, and what is wrong with a line. Assumes nothing.
-use Rattle.std.specs.Prelude.{false, List, ◌++◌, ℕ, eqb, length, get_or, if◌then◌else◌}
+use Rattle.std.specs.Prelude.{Bool, List, ◌++◌, ℕ, length, ◌==◌, if◌then◌else◌, Option, Some, None, option_and_then, Result, Ok, Err}
 use Rattle.print.specs.Ascii.{ascii}
 use Rattle.print.specs.Decimal.{decimal_text}
 use Rattle.verbs.specs.declared.trouble.What.{What}
 use Rattle.verbs.specs.declared.trouble.What.TheVariants.{End}
-use Rattle.verbs.specs.declared.trouble.Trouble.TheVariants.{Expected}
-use Rattle.verbs.specs.declared.tokens.HighRead.{HighRead}
-use Rattle.verbs.specs.declared.tokens.Span.{Span}
-use Rattle.verbs.specs.Tokens.{is_empty, word_from, text_of, high_in}
-use Rattle.verbs.specs.Trouble.{column_of, trouble_text}
+use Rattle.verbs.specs.declared.tokens.High.{High}
+use Rattle.verbs.specs.declared.pieces.Found.{Found}
+use Rattle.verbs.specs.Tokens.{is_empty, word_from, byte_in, high_in}
+use Rattle.verbs.specs.Pieces.{found_in}
+use Rattle.verbs.specs.Trouble.{no, column_of, trouble_text}
 use Rattle.draft.specs.declared.words.Part.{Part}
 use Rattle.draft.specs.declared.words.Part.TheVariants as p
 use Rattle.draft.specs.declared.words.Why.{Why}
 use Rattle.draft.specs.declared.words.Why.TheVariants as y
-use Rattle.draft.specs.declared.words.Read.{Read}
-use Rattle.draft.specs.declared.words.Read.TheVariants.{On, Wrong}
-use Rattle.draft.specs.declared.words.Pair.{Pair}
-use Rattle.draft.specs.declared.words.Uid.{Uid}
 
 -- ---- what is wrong: at a place something else should stand
 
@@ -24,29 +20,32 @@ unfoldable pub no_part : ℕ → Part → Why
 no_part at part = y.Part (column_of at) part
 
 unfoldable pub no_what : ℕ → What → Why
-no_what at what = y.Line (Expected (column_of at) what)
+no_what at what = y.Line (no at what)
 
--- nothing may stand behind a place
-unfoldable pub ended : List ℕ → ℕ → Read
-ended line at = let w = word_from line at in if is_empty w then On w.from else Wrong (no_what w.from End)
+-- the place behind the last word; nothing may stand from a place on
+unfoldable pub ended : List ℕ → ℕ → Result ℕ Why
+ended line at = let w = word_from line at in if is_empty w then Ok w.from else Err (no_what w.from End)
+
+-- the place behind `locked`, where it stands
+unfoldable pub behind : List ℕ → ℕ → Bool → ℕ
+behind line at locked = if locked then (word_from line at).to else at
 
 -- ---- the next word as a byte, two hex digits and nothing else; as a UID, sixteen
 
-unfoldable pub pair_by : ℕ → HighRead → Span → Pair
-pair_by digits h w =
-    if eqb digits 2 then record { fine = eqb h.count 1; byte = get_or h.low 0 0; word = w }
-    else record { fine = false; byte = 0; word = w }
+unfoldable pub pair_in : List ℕ → Option ℕ
+pair_in s = if length s == 2 then byte_in s else None
 
-unfoldable pub pair_from : List ℕ → ℕ → Pair
-pair_from line at = let w = word_from line at in let s = text_of line w in pair_by (length s) (high_in s) w
+unfoldable pub pair_from : List ℕ → ℕ → Found ℕ
+pair_from = found_in pair_in
 
-unfoldable pub uid_by : ℕ → HighRead → Span → Uid
-uid_by digits h w =
-    if eqb digits 16 then record { fine = eqb h.count 8; uid = h.low; word = w }
-    else record { fine = false; uid = h.low; word = w }
+abbrev pub eight_of : High → Option (List ℕ)
+eight_of h = if h.count == 8 then Some h.low else None
 
-unfoldable pub uid_from : List ℕ → ℕ → Uid
-uid_from line at = let w = word_from line at in let s = text_of line w in uid_by (length s) (high_in s) w
+unfoldable pub uid_in : List ℕ → Option (List ℕ)
+uid_in s = if length s == 16 then option_and_then eight_of (high_in s) else None
+
+unfoldable pub uid_from : List ℕ → ℕ → Found (List ℕ)
+uid_from = found_in uid_in
 
 -- ---- the texts
 

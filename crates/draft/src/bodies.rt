@@ -4,9 +4,11 @@ ghost use Rattle.std.proofs.lemmas.List.Edits.{sets};
 ghost use Rattle.draft.specs.Bodies.{afi_lock, dsfid_lock, edited, changed, chip_edited, chip_changed, cleared, new_label, new_chip, new_tag};
 ghost use Rattle.draft.specs.Bodies.{block_size, has_block, block_place, set_block, body_length};
 
+use chip::step::Chip;
+use frame::number::byte_at;
 use label::step::Label;
 use print::put::put_text;
-use rack::tag::LABEL;
+use rack::tag::Kind;
 use verbs::data::place;
 
 // Places of a label's body: its UID, blocks less 1, block length less 1, IC reference, slot.
@@ -57,92 +59,65 @@ fn put(b: &mut [u8], at: usize, v: u8)
 fn afi_lock(locks: u8, on: bool) -> u8
     ensures { result ≡ afi_lock locks on }
 {
-    let dsfid = locks / 2 % 2 * 2;
-    if on {
-        return dsfid + 1;
-    }
-    dsfid
+    locks / 2 % 2 * 2 + if on { 1 } else { 0 }
 }
 
 fn dsfid_lock(locks: u8, on: bool) -> u8
     ensures { result ≡ dsfid_lock locks on }
 {
-    let afi = locks % 2;
-    if on {
-        return afi + 2;
-    }
-    afi
+    locks % 2 + if on { 2 } else { 0 }
 }
 
+#[tactic(auto, unfolding(crate::specs::Bodies::edited))]
 fn edited(l: Label, e: Edit) -> Label
     ensures { result ≡ edited e l }
 {
-    let mut n = l;
     match e {
-        Edit::State(s) => {
-            n.state = s;
-            return n;
-        }
-        Edit::Afi(v, on) => {
-            n.afi = v;
-            n.locks = afi_lock(l.locks, on);
-            return n;
-        }
-        Edit::Dsfid(v, on) => {
-            n.dsfid = v;
-            n.locks = dsfid_lock(l.locks, on);
-            return n;
-        }
-        Edit::Slot(v) => {
-            n.slot = v;
-            return n;
-        }
-        Edit::Mask(bits, mask) => {
-            n.bits = bits;
-            n.mask = mask;
-            return n;
-        }
+        Edit::State(state) => Label { state, ..l },
+        Edit::Afi(afi, on) => Label {
+            afi,
+            locks: afi_lock(l.locks, on),
+            ..l
+        },
+        Edit::Dsfid(dsfid, on) => Label {
+            dsfid,
+            locks: dsfid_lock(l.locks, on),
+            ..l
+        },
+        Edit::Slot(slot) => Label { slot, ..l },
+        Edit::Mask(bits, mask) => Label { bits, mask, ..l },
     }
 }
 
+#[tactic(auto, unfolding(crate::specs::Bodies::changed))]
 pub fn change(b: &mut [u8], e: Edit)
     ensures { b.new ≡ changed e b.old }
 {
-    if b.len() < 32 {
-        return;
+    if 32 <= b.len() {
+        let l = label_body::body::load(b);
+        label_body::body::store(b, edited(l, e));
     }
-    let l = label_body::body::load(b);
-    label_body::body::store(b, edited(l, e));
 }
 
-fn chip_edited(c: chip::step::Chip, e: ChipEdit) -> chip::step::Chip
+#[tactic(auto, unfolding(crate::specs::Bodies::chip_edited))]
+fn chip_edited(c: Chip, e: ChipEdit) -> Chip
     ensures { result ≡ chip_edited e c }
 {
-    let mut n = c;
     match e {
-        ChipEdit::State(s) => {
-            n.state = s;
-            return n;
-        }
-        ChipEdit::Id(v) => {
-            n.id = v;
-            return n;
-        }
-        ChipEdit::Reload(v) => {
-            n.reload = v;
-            return n;
-        }
+        ChipEdit::State(state) => Chip { state, ..c },
+        ChipEdit::Id(id) => Chip { id, ..c },
+        ChipEdit::Reload(reload) => Chip { reload, ..c },
     }
 }
 
+#[tactic(auto, unfolding(crate::specs::Bodies::chip_changed))]
 pub fn chip_edit(b: &mut [u8], e: ChipEdit)
     ensures { b.new ≡ chip_changed e b.old }
 {
-    if b.len() < 80 {
-        return;
+    if 80 <= b.len() {
+        let c = chip_body::body::load(b);
+        chip_body::body::store(b, chip_edited(c, e));
     }
-    let c = chip_body::body::load(b);
-    chip_body::body::store(b, chip_edited(c, e));
 }
 
 pub fn set_fixed(b: &mut [u8], v: u8)
@@ -166,6 +141,7 @@ pub fn set_shape(b: &mut [u8], blocks: u8, size: u8)
 }
 
 // Zeros, as many as the longest body has.
+#[tactic(auto, unfolding(crate::specs::Bodies::cleared))]
 fn clear(b: &mut [u8])
     ensures { b.new ≡ cleared b.old }
 {
@@ -174,6 +150,7 @@ fn clear(b: &mut [u8])
 }
 
 // A new label: off, 28 blocks of 4 bytes, no slot.
+#[tactic(auto, unfolding(crate::specs::Bodies::new_label))]
 fn new_label(b: &mut [u8], uid: [u8; 8])
     ensures { b.new ≡ new_label uid b.old }
 {
@@ -184,80 +161,85 @@ fn new_label(b: &mut [u8], uid: [u8; 8])
 }
 
 // A new chip: off, blocks 0 to 6 and 255 all ones.
+#[tactic(auto, unfolding(crate::specs::Bodies::new_chip))]
 fn new_chip(b: &mut [u8], uid: [u8; 8])
     ensures { b.new ≡ new_chip uid b.old }
 {
-    let ones = [255u8; 28];
     clear(b);
-    put_text(b, 0, &ones);
-    put_text(b, SYSTEM, &ones[0..4]);
+    put_text(b, 0, &[255u8; 28]);
+    put_text(b, SYSTEM, &[255u8; 4]);
     put_text(b, CHIP_UID, &uid);
 }
 
-pub fn new_tag(b: &mut [u8], kind: u8, uid: [u8; 8])
+#[tactic(auto, unfolding(crate::specs::Bodies::new_tag))]
+pub fn new_tag(b: &mut [u8], kind: Kind, uid: [u8; 8])
     ensures { b.new ≡ new_tag kind uid b.old }
 {
-    if kind == LABEL {
-        new_label(b, uid);
-        return;
+    match kind {
+        Kind::Label => new_label(b, uid),
+        Kind::Chip | Kind::Other => new_chip(b, uid),
     }
-    new_chip(b, uid);
 }
 
 // How many bytes a block has.
-pub fn block_size(b: &[u8], kind: u8) -> usize
-    ensures { (result ≡ block_size kind b.now) × (result ≤ 256) }
+#[tactic(auto, unfolding(crate::specs::Bodies::block_size))]
+pub fn block_size(b: &[u8], kind: Kind) -> usize
+    ensures value { result ≡ block_size kind b.now }
+    ensures upper_bound { result ≤ 256 }
 {
-    if kind == LABEL {
-        return frame::number::byte_at(b, SIZE) as usize + 1;
+    match kind {
+        Kind::Label => byte_at(b, SIZE) as usize + 1,
+        Kind::Chip | Kind::Other => 4,
     }
-    4
 }
 
 // Whether there is a block of this number.
-pub fn has_block(b: &[u8], kind: u8, n: u8) -> bool
+#[tactic(auto, unfolding(crate::specs::Bodies::has_block))]
+pub fn has_block(b: &[u8], kind: Kind, n: u8) -> bool
     ensures { result ≡ has_block kind b.now n }
 {
-    if kind == LABEL {
-        return n <= frame::number::byte_at(b, BLOCKS);
+    match kind {
+        Kind::Label => n <= byte_at(b, BLOCKS),
+        Kind::Chip | Kind::Other => n < 16 || n == 255,
     }
-    if n < 16 {
-        return true;
-    }
-    n == 255
 }
 
-fn block_place(b: &[u8], kind: u8, n: u8) -> usize
+#[tactic(auto, unfolding(crate::specs::Bodies::block_place))]
+fn block_place(b: &[u8], kind: Kind, n: u8) -> usize
     ensures { result ≡ block_place kind b.now n }
 {
     if b.len() < 32 {
         return 0;
     }
-    if kind == LABEL {
-        return label_body::body::place(b, n);
+    match kind {
+        Kind::Label => label_body::body::place(b, n),
+        Kind::Chip | Kind::Other => chip_body::body::place(n),
     }
-    chip_body::body::place(n)
 }
 
 // A block's bytes, and a label's lock of it.
-pub fn set_block(b: &mut [u8], kind: u8, n: u8, bytes: &[u8], lock: u8)
+#[tactic(auto, unfolding(crate::specs::Bodies::set_block))]
+pub fn set_block(b: &mut [u8], kind: Kind, n: u8, bytes: &[u8], lock: u8)
     ensures { b.new ≡ set_block kind n bytes.now lock b.old }
 {
     let at = block_place(b, kind, n);
     put_text(b, at, bytes);
-    if kind != LABEL {
-        return;
+    match kind {
+        Kind::Label => put(b, LOCKS + n as usize, lock),
+        Kind::Chip | Kind::Other => {}
     }
-    put(b, LOCKS + n as usize, lock);
 }
 
 // How long a tag's body is.
-pub fn body_length(b: &[u8], kind: u8) -> usize
+#[tactic(auto, unfolding(crate::specs::Bodies::body_length))]
+pub fn body_length(b: &[u8], kind: Kind) -> usize
     ensures { result ≡ body_length kind b.now }
 {
-    if kind != LABEL {
-        return 80;
+    match kind {
+        Kind::Label => {
+            let last = byte_at(b, BLOCKS);
+            place(block_place(b, kind, last), block_size(b, kind))
+        }
+        Kind::Chip | Kind::Other => 80,
     }
-    let last = frame::number::byte_at(b, BLOCKS);
-    place(block_place(b, kind, last), block_size(b, kind))
 }

@@ -1,10 +1,11 @@
 // What a text of a rack is made of, and what is wrong with one.
 ghost use Rattle.std.specs.Prelude.{◌≡◌};
-ghost use Rattle.print.specs.Puts.{Puts};
-ghost use Rattle.draft.specs.Words.{no_part, no_what, ended, pair_from, uid_from, part_text, expected_text, why_text};
+ghost use Rattle.print.specs.Line.{laid};
+ghost use Rattle.draft.specs.Words.{no_part, no_what, ended, behind, pair_in, pair_from, uid_in, uid_from, part_text, expected_text, why_text};
 
-use print::put::{put_decimal, put_text};
-use verbs::tokens::{Span, high_in, is_empty, text_of, word_from};
+use print::line::Line;
+use verbs::pieces::Found;
+use verbs::tokens::{Rest, byte_in, high_in};
 use verbs::trouble::{Trouble, What, column, expected, put_trouble};
 
 // What should stand at a place of a rack's text alone.
@@ -35,132 +36,126 @@ pub enum Why {
     Long,
 }
 
-// What was read of a line up to a place; Sized where it said how many blocks a label has.
-#[derive(Clone, Copy)]
-pub enum Read {
-    On(usize),
-    Sized(usize),
-    Wrong(Why),
-}
-
-// A byte in hex, and its word.
-#[derive(Clone, Copy)]
-pub struct Pair {
-    pub fine: bool,
-    pub byte: u8,
-    pub word: Span,
-}
-
-#[derive(Clone, Copy)]
-pub struct Uid {
-    pub fine: bool,
-    pub uid: [u8; 8],
-    pub word: Span,
-}
-
+#[tactic(auto, unfolding(crate::specs::Words::no_part))]
 pub fn no_part(at: usize, part: Part) -> Why
     ensures { result ≡ no_part at part }
 {
     Why::Part(column(at), part)
 }
 
+#[tactic(auto, unfolding(crate::specs::Words::no_what))]
 pub fn no_what(at: usize, what: What) -> Why
     ensures { result ≡ no_what at what }
 {
     Why::Line(expected(at, what))
 }
 
-// Nothing may stand behind a place.
-pub fn ended(line: &[u8], at: usize) -> Read
-    ensures { result ≡ ended line.now at }
+// Nothing may stand from here on: the place behind the last word.
+#[tactic(auto, unfolding(crate::specs::Words::ended))]
+pub fn ended(rest: Rest) -> Result<usize, Why>
+    ensures { result ≡ ended rest.entry.line.now rest.entry.at }
 {
-    let w = word_from(line, at);
-    if is_empty(w) {
-        return Read::On(w.from);
+    let w = rest.word();
+    if w.is_empty() {
+        return Ok(w.from);
     }
-    Read::Wrong(no_what(w.from, What::End))
+    Err(no_what(w.from, What::End))
+}
+
+// The place behind a word of `locked`, where it stands next.
+#[tactic(auto, unfolding(crate::specs::Words::behind))]
+pub fn behind(rest: Rest, locked: bool) -> usize
+    ensures { result ≡ behind rest.entry.line.now rest.entry.at locked }
+{
+    if locked { rest.next().at } else { rest.at }
+}
+
+#[tactic(auto, unfolding(crate::specs::Words::pair_in))]
+fn pair_in(text: &[u8]) -> Option<u8>
+    ensures { result ≡ pair_in text.now }
+{
+    if text.len() == 2 { byte_in(text) } else { None }
 }
 
 // Two hex digits and nothing else.
-pub fn pair_from(line: &[u8], at: usize) -> Pair
-    ensures { result ≡ pair_from line.now at }
+#[tactic(auto, unfolding(crate::specs::Words::pair_from))]
+pub fn pair_from(rest: Rest) -> Found<u8>
+    ensures { result ≡ pair_from rest.entry.line.now rest.entry.at }
 {
-    let w = word_from(line, at);
-    let text = text_of(line, w);
-    let h = high_in(text);
-    let low = h.low;
-    if text.len() != 2 {
-        return Pair {
-            fine: false,
-            byte: 0,
-            word: w,
-        };
+    let word = rest.word();
+    Found {
+        value: pair_in(rest.text(word)),
+        word,
     }
-    Pair {
-        fine: h.count == 1,
-        byte: low[0],
-        word: w,
+}
+
+#[tactic(auto, unfolding(crate::specs::Words::uid_in))]
+fn uid_in(text: &[u8]) -> Option<[u8; 8]>
+    ensures { result ≡ uid_in text.now }
+{
+    if text.len() != 16 {
+        return None;
     }
+    let high = high_in(text)?;
+    if high.count != 8 {
+        return None;
+    }
+    Some(high.low)
 }
 
 // Sixteen hex digits and nothing else.
-pub fn uid_from(line: &[u8], at: usize) -> Uid
-    ensures { result ≡ uid_from line.now at }
+#[tactic(auto, unfolding(crate::specs::Words::uid_from))]
+pub fn uid_from(rest: Rest) -> Found<[u8; 8]>
+    ensures { result ≡ uid_from rest.entry.line.now rest.entry.at }
 {
-    let w = word_from(line, at);
-    let text = text_of(line, w);
-    let h = high_in(text);
-    let low = h.low;
-    if text.len() != 16 {
-        return Uid {
-            fine: false,
-            uid: low,
-            word: w,
-        };
-    }
-    Uid {
-        fine: h.count == 8,
-        uid: low,
-        word: w,
+    let word = rest.word();
+    Found {
+        value: uid_in(rest.text(word)),
+        word,
     }
 }
 
-fn put_part(out: &mut [u8], at: usize, part: Part) -> usize
-    ensures { Puts (part_text part) at out.old out.new result }
-{
-    match part {
-        Part::Edition => put_text(out, at, b"rack edition 1"),
-        Part::Tag => put_text(out, at, b"label or chip"),
-        Part::Uid => put_text(out, at, b"a UID of 16 hex digits"),
-        Part::Field => put_text(out, at, b"a field"),
-        Part::State => put_text(out, at, b"a state"),
-        Part::YesOrNo => put_text(out, at, b"yes or no"),
-        Part::Of => put_text(out, at, b"of"),
-        Part::Blocks => put_text(out, at, b"a number of 1 to 256"),
-        Part::Size => put_text(out, at, b"a number of 1 to 32"),
-        Part::Block => put_text(out, at, b"the number of a block"),
-        Part::BlocksFirst => put_text(out, at, b"blocks before the first block"),
-        Part::NoMore => put_text(out, at, b"no more bytes"),
+impl Part {
+    #[tactic(auto, unfolding(crate::specs::Words::part_text))]
+    fn text(self) -> &'static [u8]
+        ensures { result.now ≡ part_text self }
+    {
+        match self {
+            Part::Edition => b"rack edition 1",
+            Part::Tag => b"label or chip",
+            Part::Uid => b"a UID of 16 hex digits",
+            Part::Field => b"a field",
+            Part::State => b"a state",
+            Part::YesOrNo => b"yes or no",
+            Part::Of => b"of",
+            Part::Blocks => b"a number of 1 to 256",
+            Part::Size => b"a number of 1 to 32",
+            Part::Block => b"the number of a block",
+            Part::BlocksFirst => b"blocks before the first block",
+            Part::NoMore => b"no more bytes",
+        }
     }
 }
 
-fn put_expected(out: &mut [u8], at: usize, column: u64, part: Part) -> usize
-    ensures { Puts (expected_text column part) at out.old out.new result }
+#[tactic(auto, using(print::proofs::Lines::lines), unfolding(crate::specs::Words::expected_text))]
+fn put_expected<const N: usize>(line: &mut Line<N>, column: u64, part: Part)
+    ensures { line.new ≡ laid N line.old (expected_text column part) }
 {
-    let a = put_text(out, at, b"column ");
-    let b = put_decimal(out, a, column);
-    let c = put_text(out, b, b": expected ");
-    put_part(out, c, part)
+    line.put(b"column ");
+    line.decimal(column);
+    line.put(b": expected ");
+    line.put(part.text());
 }
 
-pub fn put_why(out: &mut [u8], at: usize, why: Why) -> usize
-    ensures { Puts (why_text why) at out.old out.new result }
+#[tactic(auto, unfolding(crate::specs::Words::why_text))]
+pub fn put_why<const N: usize>(line: &mut Line<N>, why: Why)
+    ensures { line.new ≡ laid N line.old (why_text why) }
 {
     match why {
-        Why::Part(column, part) => put_expected(out, at, column, part),
-        Why::Line(trouble) => put_trouble(out, at, trouble),
-        Why::Bytes => put_text(out, at, b"the rack has over 65536 bytes here"),
-        Why::Tags => put_text(out, at, b"the rack has over 64 tags here"),
-        Why::Long => put_text(out, at, b"too long"),
+        Why::Part(column, part) => put_expected(line, column, part),
+        Why::Line(trouble) => put_trouble(line, trouble),
+        Why::Bytes => line.put(b"the rack has over 65536 bytes here"),
+        Why::Tags => line.put(b"the rack has over 64 tags here"),
+        Why::Long => line.put(b"too long"),
     }
 }

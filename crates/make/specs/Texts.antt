@@ -1,6 +1,6 @@
 -- What `make` says on standard error of a text, or of a rack that is not well-formed. Assumes nothing.
 use Rattle.std.specs.Prelude.{ℕ, List, ◌++◌}
-use Rattle.frame.specs.declared.verdict.Verdict.{Verdict}
+use Rattle.frame.specs.Judge.{Verdict}
 use Rattle.print.specs.Ascii.{ascii}
 use Rattle.print.specs.Decimal.{decimal_text}
 use Rattle.sheet.specs.Refusal.{refusal_text}

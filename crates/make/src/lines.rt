@@ -4,35 +4,48 @@ ghost use Rattle.text.specs.Count.{is_decimal};
 ghost use Rattle.verbs.specs.Data.{place_of};
 ghost use Rattle.draft.specs.Bodies.{Drafts};
 ghost use Rattle.make.specs.Lines.{line_of, lines_from, opens_tag, tags_in};
-ghost use Rattle.make.specs.Tags.{Takes, Turns, over, entry_place, with_entry, closed_maker, Closes, over_at_once, opened, settled, opens};
-ghost use Rattle.make.specs.Tags.{no_edition, edition_in, begins, field_of, Tells, fields_in, measured, told, holds, about, take_line, take_next, take_lines};
+ghost use Rattle.make.specs.Tags.{Takes, Turns, stop, over, fits, entry_place, kind_byte, with_entry, Closes, closed_maker, over_at_once, opened, opens};
+ghost use Rattle.make.specs.Tags.{word_behind, edition_in, begins, field_of, Tells, fields_in, measured, told, holds, about, take_line, take_next, take_lines};
 ghost use Rattle.make.specs.Made.{first_of, laid_out, judged, Fits, Makes, finished, making_of};
 
 use draft::blocks::block;
 use draft::bodies::{body_length, new_tag};
 use draft::chips::chip_field;
-use draft::labels::label_field;
-use draft::words::{Part, Read, Why, ended, no_part, uid_from};
+use draft::labels::{Reached, label_field};
+use draft::words::{Part, Why, ended, no_part, uid_from};
 use frame::number::byte_at;
 use frame::put::put_number;
-use frame::verdict::Verdict;
+use frame::verdict::Offence;
 use print::put::put_text;
 use rack::file::{entry_of, judge};
-use rack::tag::{CHIP, LABEL};
+use rack::tag::Kind;
 use text::mark::after_mark;
 use verbs::data::place;
-use verbs::pieces::next_is;
-use verbs::tokens::{Span, find, is_empty, text_of, word_from};
+use verbs::tokens::{Rest, Span, find, text_of};
 
-// What a text made: a rack of so many bytes; what is wrong with a line; a rack of so many bytes that is not well-formed.
+// What is wrong with a line.
 #[derive(Clone, Copy)]
-pub enum Made {
-    Rack(usize),
-    Wrong(u64, Why),
-    Refused(usize, Verdict),
+pub struct Stop {
+    pub line: u64,
+    pub why: Why,
 }
 
-// How far a rack is made. The open tag, whose body stands in a buffer of its own, is of a kind, 0 before the first.
+// Why no rack is made: what is wrong with a line, or a rack of so many bytes that is not well-formed.
+#[derive(Clone, Copy)]
+pub enum Flaw {
+    Wrong(Stop),
+    Refused(usize, Offence),
+}
+
+// The open tag, whose body stands in a buffer of its own: the line that gave it its length, and whether a block has been said.
+#[derive(Clone, Copy)]
+struct Tag {
+    kind: Kind,
+    line: u64,
+    held: bool,
+}
+
+// How far a rack is made.
 #[derive(Clone, Copy)]
 struct Maker {
     // Lines so far, and whether the edition has been said.
@@ -42,394 +55,350 @@ struct Maker {
     count: usize,
     size: usize,
     end: usize,
-    kind: u8,
-    // The line that gave the open tag its length, and whether a block has been said.
-    line: u64,
-    held: bool,
+    tag: Option<Tag>,
 }
 
-#[derive(Clone, Copy)]
-enum Step {
-    Go(Maker),
-    Stop(u64, Why),
-}
-
-// Whether the fields of a line were read, and `blocks` among them.
-#[derive(Clone, Copy)]
-enum Fields {
-    Fine(bool),
-    Wrong(Why),
-}
-
-// Whether the rack has over 65,536 bytes with the open tag.
-fn over(m: Maker, b: &[u8]) -> bool
-    ensures { result ≡ over m b.now }
-{
-    if m.kind == 0 {
-        return false;
+impl Maker {
+    // Something is wrong with the line at hand.
+    fn stop(self, why: Why) -> Stop
+        ensures { result ≡ stop self.lines why }
+    {
+        Stop {
+            line: self.lines,
+            why,
+        }
     }
-    65536 < place(place(m.size, 8), body_length(b, m.kind))
+
+    // Whether the rack has over 65,536 bytes with a tag of this kind.
+    #[tactic(auto, unfolding(crate::specs::Tags::over))]
+    fn over(self, kind: Kind, b: &[u8]) -> bool
+        ensures { result ≡ over self kind b.now }
+    {
+        65536 < place(place(self.size, 8), body_length(b, kind))
+    }
+
+    // There is room for the open tag, or else the line that gave it its length is wrong.
+    #[tactic(auto, unfolding(crate::specs::Tags::fits))]
+    fn fits(self, b: &[u8]) -> Result<(), Stop>
+        ensures { result ≡ fits self b.now }
+    {
+        match self.tag {
+            Some(tag) if self.over(tag.kind, b) => Err(Stop {
+                line: tag.line,
+                why: Why::Bytes,
+            }),
+            _ => Ok(()),
+        }
+    }
 }
 
 // Where entry i stands.
+#[tactic(auto, unfolding(crate::specs::Tags::entry_place))]
 fn entry_place(i: usize) -> usize
     ensures { result ≡ entry_place i }
 {
-    if 64 < i {
-        return 514;
-    }
-    entry_of(i)
+    entry_of(i.min(64))
 }
 
-// The last of so many tags; there is one.
-fn last_of(count: usize) -> usize
-    ensures { result ≡ count - 1 }
+fn kind_byte(kind: Kind) -> u8
+    ensures { result ≡ kind_byte kind }
 {
-    if count == 0 {
-        return 0;
-    }
-    count - 1
+    kind as u8
 }
 
 // The entry of the last of so many tags.
-fn put_entry(out: &mut [u8], count: usize, kind: u8, len: usize, at: usize)
+fn put_entry(out: &mut [u8], count: usize, kind: Kind, len: usize, at: usize)
     ensures { out.new ≡ with_entry count kind len at out.old }
 {
     let mut e = [0u8; 8];
-    e[0] = kind;
+    e[0] = kind_byte(kind);
     put_number(&mut e, 2, len as u64, 2);
     put_number(&mut e, 4, at as u64, 4);
-    put_text(out, entry_place(last_of(count)), &e);
+    put_text(out, entry_place(count.saturating_sub(1)), &e);
 }
 
 // The open tag goes into the rack.
+#[tactic(auto, unfolding(crate::specs::Tags::closed_maker, crate::specs::Tags::closed_out))]
 fn close(m: Maker, b: &[u8], out: &mut [u8]) -> Maker
     ensures { Closes m b.now out.old result out.new }
 {
-    if m.kind == 0 {
+    let Some(tag) = m.tag else {
         return m;
-    }
-    let len = body_length(b, m.kind);
-    put_entry(out, m.count, m.kind, len, m.end);
+    };
+    let len = body_length(b, tag.kind);
+    put_entry(out, m.count, tag.kind, len, m.end);
     put_text(out, m.end, text_of(b, Span { from: 0, to: len }));
-    let mut n = m;
-    n.size = place(place(m.size, 8), len);
-    n.end = place(m.end, len);
-    n
+    Maker {
+        size: place(place(m.size, 8), len),
+        end: place(m.end, len),
+        ..m
+    }
 }
 
 // A chip's length is known at once, a label's when all is said of it.
-fn over_at_once(m: Maker, b: &[u8]) -> bool
-    ensures { result ≡ over_at_once m b.now }
+#[tactic(auto, unfolding(crate::specs::Tags::over_at_once))]
+fn over_at_once(m: Maker, kind: Kind, b: &[u8]) -> bool
+    ensures { result ≡ over_at_once m kind b.now }
 {
-    if m.kind == CHIP {
-        return over(m, b);
-    }
-    false
+    kind == Kind::Chip && m.over(kind, b)
 }
 
 // A tag is opened where there is room for one more.
-fn opened(m: Maker, kind: u8, uid: [u8; 8], b: &mut [u8], out: &mut [u8]) -> Step
+#[tactic(auto, unfolding(crate::specs::Tags::opened))]
+fn opened(m: Maker, kind: Kind, uid: [u8; 8], b: &mut [u8], out: &mut [u8]) -> Result<Maker, Stop>
     ensures { Takes (opened m kind uid b.old out.old) result b.new out.new }
 {
     if 63 < m.count {
-        return Step::Stop(m.lines, Why::Tags);
+        return Err(m.stop(Why::Tags));
     }
-    let mut n = close(m, b, out);
-    n.count = place(m.count, 1);
-    n.kind = kind;
-    n.line = m.lines;
-    n.held = false;
+    let next = Maker {
+        count: place(m.count, 1),
+        tag: Some(Tag {
+            kind,
+            line: m.lines,
+            held: false,
+        }),
+        ..close(m, b, out)
+    };
     new_tag(b, kind, uid);
-    if over_at_once(n, b) {
-        return Step::Stop(m.lines, Why::Bytes);
+    if over_at_once(next, kind, b) {
+        return Err(m.stop(Why::Bytes));
     }
-    Step::Go(n)
+    Ok(next)
 }
 
-// Whether something was read well, and `blocks` with it.
-fn settled(r: Read) -> Fields
-    ensures { result ≡ settled r }
+#[tactic(auto, unfolding(crate::specs::Tags::opens))]
+fn open(m: Maker, kind: Kind, rest: Rest, b: &mut [u8], out: &mut [u8]) -> Result<Maker, Stop>
+    ensures { Takes (opens m kind rest.entry.line.now rest.entry.at b.old out.old) result b.new out.new }
 {
-    match r {
-        Read::On(_) => Fields::Fine(false),
-        Read::Sized(_) => Fields::Fine(true),
-        Read::Wrong(why) => Fields::Wrong(why),
-    }
+    m.fits(b)?;
+    let u = uid_from(rest);
+    let uid = u.value.ok_or(m.stop(no_part(u.word.from, Part::Uid)))?;
+    ended(rest.behind(u.word)).map_err(|why| m.stop(why))?;
+    opened(m, kind, uid, b, out)
 }
 
-fn open(m: Maker, kind: u8, line: &[u8], at: usize, b: &mut [u8], out: &mut [u8]) -> Step
-    ensures { Takes (opens m kind line.now at b.old out.old) result b.new out.new }
+// The place behind a word of the edition, which must stand next.
+#[tactic(auto, unfolding(crate::specs::Tags::word_behind))]
+fn word_behind(rest: Rest, word: &[u8]) -> Result<usize, Why>
+    ensures { result ≡ word_behind rest.entry.line.now rest.entry.at word.now }
 {
-    if over(m, b) {
-        return Step::Stop(m.line, Why::Bytes);
+    let w = rest.word();
+    if rest.next_is(word) {
+        return Ok(w.to);
     }
-    let u = uid_from(line, at);
-    let w = u.word;
-    if !u.fine {
-        return Step::Stop(m.lines, no_part(w.from, Part::Uid));
-    }
-    let uid = u.uid;
-    let e = settled(ended(line, w.to));
-    match e {
-        Fields::Wrong(why) => Step::Stop(m.lines, why),
-        Fields::Fine(_) => opened(m, kind, uid, b, out),
-    }
+    Err(no_part(w.from, Part::Edition))
 }
 
-fn no_edition(w: Span) -> Read
-    ensures { result ≡ no_edition w }
-{
-    Read::Wrong(no_part(w.from, Part::Edition))
-}
-
-fn edition_in(line: &[u8]) -> Read
+#[tactic(auto, unfolding(crate::specs::Tags::edition_in))]
+fn edition_in(line: &[u8]) -> Result<usize, Why>
     ensures { result ≡ edition_in line.now }
 {
-    let rack = word_from(line, 0);
-    if !next_is(line, 0, b"rack") {
-        return no_edition(rack);
-    }
-    let edition = word_from(line, rack.to);
-    if !next_is(line, rack.to, b"edition") {
-        return no_edition(edition);
-    }
-    let number = word_from(line, edition.to);
-    if !next_is(line, edition.to, b"1") {
-        return no_edition(number);
-    }
-    ended(line, number.to)
+    let at = word_behind(Rest { line, at: 0 }, b"rack")?;
+    let at = word_behind(Rest { line, at }, b"edition")?;
+    let at = word_behind(Rest { line, at }, b"1")?;
+    ended(Rest { line, at })
 }
 
-fn edition(m: Maker, line: &[u8]) -> Step
+#[tactic(auto, unfolding(crate::specs::Tags::begins))]
+fn edition(m: Maker, line: &[u8]) -> Result<Maker, Stop>
     ensures { result ≡ begins m line.now }
 {
-    let r = settled(edition_in(line));
-    match r {
-        Fields::Wrong(why) => Step::Stop(m.lines, why),
-        Fields::Fine(_) => {
-            let mut n = m;
-            n.begun = true;
-            Step::Go(n)
-        }
-    }
+    edition_in(line).map_err(|why| m.stop(why))?;
+    Ok(Maker { begun: true, ..m })
 }
 
-fn field(b: &mut [u8], line: &[u8], w: Span, kind: u8, held: bool) -> Read
-    ensures { Drafts (field_of kind held line.now w b.old) result b.new }
+#[tactic(auto, unfolding(crate::specs::Tags::field_of))]
+fn field(b: &mut [u8], line: Rest, w: Span, tag: Tag) -> Result<Reached, Why>
+    ensures { Drafts (field_of tag line.entry.line.now w b.old) result b.new }
 {
-    if kind == LABEL {
-        return label_field(b, line, w, held);
+    if tag.kind == Kind::Label {
+        return label_field(b, line, w, tag.held);
     }
-    chip_field(b, line, w)
+    let to = chip_field(b, line, w)?;
+    Ok(Reached { to, sized: false })
 }
 
-fn fields_in(b: &mut [u8], line: &[u8], kind: u8, held: bool) -> Fields
-    ensures { Tells (fields_in kind held line.now b.old) result b.new }
+// Reads the fields of a line, and says whether `blocks` was among them.
+fn fields_in(b: &mut [u8], line: &[u8], tag: Tag) -> Result<bool, Why>
+    ensures { Tells (fields_in tag line.now b.old) result b.new }
 {
     let mut at = 0;
     let mut sized = false;
-    let mut left = line.len();
-    while 0 < left {
-        left -= 1;
-        let w = word_from(line, at);
-        if is_empty(w) {
-            return Fields::Fine(sized);
+    for _ in 0..line.len() {
+        let rest = Rest { line, at };
+        let w = rest.word();
+        if w.is_empty() {
+            return Ok(sized);
         }
-        let r = field(b, line, w, kind, held);
-        match r {
-            Read::On(to) => {
-                at = to;
-            }
-            Read::Sized(to) => {
-                at = to;
-                sized = true;
-            }
-            Read::Wrong(why) => return Fields::Wrong(why),
-        }
+        let reached = field(b, rest, w, tag)?;
+        at = reached.to;
+        sized |= reached.sized;
     }
-    Fields::Fine(sized)
+    Ok(sized)
 }
 
-fn told(m: Maker, line: &[u8], b: &mut [u8]) -> Step
-    ensures { Turns (told m line.now b.old) result b.new }
+#[tactic(auto, unfolding(crate::specs::Tags::told))]
+fn told(m: Maker, tag: Tag, line: &[u8], b: &mut [u8]) -> Result<Maker, Stop>
+    ensures { Turns (told m tag line.now b.old) result b.new }
 {
-    let f = fields_in(b, line, m.kind, m.held);
-    match f {
-        Fields::Wrong(why) => Step::Stop(m.lines, why),
-        Fields::Fine(sized) => measured(m, sized, b),
-    }
+    let sized = fields_in(b, line, tag).map_err(|why| m.stop(why))?;
+    measured(m, tag, sized, b)
 }
 
 // A line that said how many blocks there are gives a label its length.
-fn measured(m: Maker, sized: bool, b: &[u8]) -> Step
-    ensures { result ≡ measured m sized b.now }
+#[tactic(auto, unfolding(crate::specs::Tags::measured))]
+fn measured(m: Maker, tag: Tag, sized: bool, b: &[u8]) -> Result<Maker, Stop>
+    ensures { result ≡ measured m tag sized b.now }
 {
     if !sized {
-        return Step::Go(m);
+        return Ok(m);
     }
-    if over(m, b) {
-        return Step::Stop(m.lines, Why::Bytes);
+    if m.over(tag.kind, b) {
+        return Err(m.stop(Why::Bytes));
     }
-    let mut n = m;
-    n.line = m.lines;
-    Step::Go(n)
+    Ok(Maker {
+        tag: Some(Tag {
+            line: m.lines,
+            ..tag
+        }),
+        ..m
+    })
 }
 
-fn held(m: Maker, line: &[u8], b: &mut [u8]) -> Step
-    ensures { Turns (holds m line.now b.old) result b.new }
+#[tactic(auto, unfolding(crate::specs::Tags::holds))]
+fn held(m: Maker, tag: Tag, line: &[u8], b: &mut [u8]) -> Result<Maker, Stop>
+    ensures { Turns (holds m tag line.now b.old) result b.new }
 {
-    let r = settled(block(b, m.kind, line));
-    match r {
-        Fields::Wrong(why) => Step::Stop(m.lines, why),
-        Fields::Fine(_) => {
-            let mut n = m;
-            n.held = true;
-            Step::Go(n)
-        }
-    }
-}
-
-fn is_digit(c: u8) -> bool
-    ensures { result ≡ is_decimal c }
-{
-    if c < 48 {
-        return false;
-    }
-    c <= 57
+    block(b, tag.kind, line).map_err(|why| m.stop(why))?;
+    Ok(Maker {
+        tag: Some(Tag { held: true, ..tag }),
+        ..m
+    })
 }
 
 // A line about the open tag, whose first word stands at a place.
-fn about(m: Maker, line: &[u8], from: usize, b: &mut [u8]) -> Step
+#[tactic(auto, unfolding(crate::specs::Tags::about))]
+fn about(m: Maker, line: &[u8], from: usize, b: &mut [u8]) -> Result<Maker, Stop>
     ensures { Turns (about m line.now from b.old) result b.new }
 {
-    if m.kind == 0 {
-        return Step::Stop(m.lines, no_part(from, Part::Tag));
+    let Some(tag) = m.tag else {
+        return Err(m.stop(no_part(from, Part::Tag)));
+    };
+    if byte_at(line, from).is_ascii_digit() {
+        held(m, tag, line, b)
+    } else {
+        told(m, tag, line, b)
     }
-    if is_digit(byte_at(line, from)) {
-        return held(m, line, b);
-    }
-    told(m, line, b)
 }
 
-fn take_line(m: Maker, line: &[u8], b: &mut [u8], out: &mut [u8]) -> Step
+#[tactic(auto, unfolding(crate::specs::Tags::take_line))]
+fn take_line(m: Maker, line: &[u8], b: &mut [u8], out: &mut [u8]) -> Result<Maker, Stop>
     ensures { Takes (take_line m line.now b.old out.old) result b.new out.new }
 {
-    let w = word_from(line, 0);
-    if is_empty(w) {
-        return Step::Go(m);
+    let rest = Rest { line, at: 0 };
+    let w = rest.word();
+    if w.is_empty() {
+        return Ok(m);
     }
     if !m.begun {
         return edition(m, line);
     }
-    if next_is(line, 0, b"label") {
-        return open(m, LABEL, line, w.to, b, out);
+    if rest.next_is(b"label") {
+        return open(m, Kind::Label, rest.behind(w), b, out);
     }
-    if next_is(line, 0, b"chip") {
-        return open(m, CHIP, line, w.to, b, out);
+    if rest.next_is(b"chip") {
+        return open(m, Kind::Chip, rest.behind(w), b, out);
     }
     about(m, line, w.from, b)
 }
 
 // A line without the carriage return before its newline.
+#[tactic(auto, unfolding(crate::specs::Lines::line_of))]
 fn line_of(text: &[u8], from: usize, to: usize) -> &[u8]
     ensures { result.now ≡ line_of text.now from to }
 {
-    let line = text_of(text, Span { from: from, to: to });
+    let line = text_of(text, Span { from, to });
     let n = line.len();
-    if n == 0 {
+    if n == 0 || text.len() <= to || line[n - 1] != b'\r' {
         return line;
     }
-    if text.len() <= to {
-        return line;
-    }
-    if line[n - 1] == b'\r' {
-        return &line[0..n - 1];
-    }
-    line
+    &line[..n - 1]
 }
 
 // The number of the next line. Numbers wrap, past any text's end.
+#[tactic(auto, unfolding(verbs::specs::Data::place_of))]
 fn after(line: u64) -> u64
     ensures { result ≡ place_of line 1 }
 {
-    std::num::wrapping_add_u64(line, 1)
+    line.wrapping_add(1)
 }
 
-fn take_next(m: Maker, line: &[u8], len: usize, b: &mut [u8], out: &mut [u8]) -> Step
+#[tactic(auto, unfolding(crate::specs::Tags::take_next))]
+fn take_next(m: Maker, line: &[u8], len: usize, b: &mut [u8], out: &mut [u8]) -> Result<Maker, Stop>
     ensures { Takes (take_next m line.now len b.old out.old) result b.new out.new }
 {
-    let mut n = m;
-    n.lines = after(m.lines);
+    let next = Maker {
+        lines: after(m.lines),
+        ..m
+    };
     if 262143 < len {
-        return Step::Stop(n.lines, Why::Long);
+        return Err(next.stop(Why::Long));
     }
-    take_line(n, line, b, out)
+    take_line(next, line, b, out)
 }
 
 // Every line, from a place of the text on.
-fn take_lines(first: Maker, text: &[u8], from: usize, b: &mut [u8], out: &mut [u8]) -> Step
+fn take_lines(
+    first: Maker,
+    text: &[u8],
+    from: usize,
+    b: &mut [u8],
+    out: &mut [u8],
+) -> Result<Maker, Stop>
     ensures { Takes (take_lines (lines_from (length text.now) text.now from) first b.old out.old)
         result b.new out.new }
 {
     let mut m = first;
     let mut at = from;
-    let mut left = text.len();
-    while 0 < left {
-        left -= 1;
+    for _ in 0..text.len() {
         if text.len() <= at {
-            return Step::Go(m);
+            return Ok(m);
         }
         let to = find(text, at, b'\n');
-        let step = take_next(m, line_of(text, at, to), to - at, b, out);
-        let Step::Go(next) = step else {
-            return step;
-        };
-        m = next;
+        m = take_next(m, line_of(text, at, to), to - at, b, out)?;
         at = place(to, 1);
     }
-    Step::Go(m)
+    Ok(m)
 }
 
+#[tactic(auto, unfolding(crate::specs::Lines::opens_tag))]
 fn opens_tag(line: &[u8]) -> bool
     ensures { result ≡ opens_tag line.now }
 {
-    if next_is(line, 0, b"label") {
-        return true;
-    }
-    next_is(line, 0, b"chip")
-}
-
-// A line that opens a tag counts for 1.
-fn tags_in(line: &[u8]) -> usize
-    ensures value { result ≡ (if opens_tag line.now then 1 else 0) }
-    ensures upper_bound { result ≤ 1 }
-{
-    if opens_tag(line) {
-        return 1;
-    }
-    0
+    let rest = Rest { line, at: 0 };
+    rest.next_is(b"label") || rest.next_is(b"chip")
 }
 
 // How many lines open a tag; only so many entries are kept free.
+// A loop of its own beside `take_lines`: that one leaves at the first offence and has two buffers lent, which one function over both would not make plainer.
 fn count_tags(text: &[u8], from: usize) -> usize
     ensures { result ≡ tags_in (lines_from (length text.now) text.now from) }
 {
     let mut n = 0;
     let mut at = from;
-    let mut left = text.len();
-    while 0 < left {
-        left -= 1;
+    for _ in 0..text.len() {
         if text.len() <= at {
             return n;
         }
         let to = find(text, at, b'\n');
-        n = n + tags_in(line_of(text, at, to));
+        n += usize::from(opens_tag(line_of(text, at, to)));
         at = place(to, 1);
     }
     n
 }
 
+#[tactic(auto, unfolding(crate::specs::Made::first_of))]
 fn first_of(tags: usize) -> Maker
     ensures { result ≡ first_of tags }
 {
@@ -439,9 +408,7 @@ fn first_of(tags: usize) -> Maker
         count: 0,
         size: 2,
         end: entry_place(tags),
-        kind: 0,
-        line: 0,
-        held: false,
+        tag: None,
     }
 }
 
@@ -456,47 +423,47 @@ fn laid(m: Maker, b: &[u8], out: &mut [u8]) -> usize
     n.end
 }
 
-fn judged(out: &[u8], n: usize) -> Made
+#[tactic(auto, unfolding(crate::specs::Made::judged))]
+fn judged(out: &[u8], n: usize) -> Result<usize, Flaw>
     ensures fits { Fits result out.now }
     ensures value { result ≡ judged out.now n }
 {
-    if 65536 < n {
-        return Made::Wrong(0, Why::Bytes);
+    if 65536 < n || out.len() < n {
+        return Err(Flaw::Wrong(Stop {
+            line: 0,
+            why: Why::Bytes,
+        }));
     }
-    if out.len() < n {
-        return Made::Wrong(0, Why::Bytes);
+    match judge(&out[..n]) {
+        Ok(()) => Ok(n),
+        Err(offence) => Err(Flaw::Refused(n, offence)),
     }
-    let v = judge(&out[0..n]);
-    if v.number != 0 {
-        return Made::Refused(n, v);
-    }
-    Made::Rack(n)
 }
 
-fn finished(m: Maker, b: &[u8], out: &mut [u8]) -> Made
+#[tactic(auto, unfolding(crate::specs::Made::finished))]
+fn finished(m: Maker, b: &[u8], out: &mut [u8]) -> Result<usize, Flaw>
     ensures fits { Fits result out.new }
     ensures makes { Makes (finished m b.now out.old) result out.new }
 {
-    if over(m, b) {
-        return Made::Wrong(m.line, Why::Bytes);
-    }
+    m.fits(b).map_err(Flaw::Wrong)?;
     if !m.begun {
-        return Made::Wrong(after(m.lines), no_part(0, Part::Edition));
+        return Err(Flaw::Wrong(Stop {
+            line: after(m.lines),
+            why: no_part(0, Part::Edition),
+        }));
     }
     let n = laid(m, b, out);
     judged(out, n)
 }
 
-// A rack from its text, at the front of out; b is for the body of one tag.
-pub fn make_rack(text: &[u8], b: &mut [u8], out: &mut [u8]) -> Made
+// A rack from its text, at the front of out, and how many bytes it has; b is for the body of one tag.
+#[tactic(auto, unfolding(crate::specs::Made::making_of, crate::specs::Lines::lines_of))]
+pub fn make_rack(text: &[u8], b: &mut [u8], out: &mut [u8]) -> Result<usize, Flaw>
     ensures fits { Fits result out.new }
     ensures makes { Makes (making_of text.now b.old out.old) result out.new }
 {
     let from = after_mark(text);
     let first = first_of(count_tags(text, from));
-    let step = take_lines(first, text, from, b, out);
-    match step {
-        Step::Stop(n, why) => Made::Wrong(n, why),
-        Step::Go(m) => finished(m, b, out),
-    }
+    let last = take_lines(first, text, from, b, out).map_err(Flaw::Wrong)?;
+    finished(last, b, out)
 }

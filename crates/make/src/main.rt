@@ -3,90 +3,80 @@
 
 mod lines;
 
-ghost use Rattle.print.specs.Puts.{Puts};
+ghost use Rattle.std.specs.Prelude.{◌≡◌};
+ghost use Rattle.print.specs.Line.{laid};
 ghost use Rattle.make.specs.Texts.{wrong_text, refused_text};
 
-use crate::lines::{Made, make_rack};
-use draft::words::{Why, put_why};
+use crate::lines::{Flaw, Stop, make_rack};
+use draft::words::put_why;
 use frame::verdict::Verdict;
-use print::fail;
-use print::put::{put_decimal, put_text};
+use print::fail::tell;
+use print::line::Line;
 use sheet::refusal::put_refusal;
 use text::args::{PATH_MAX, count, path};
 use text::file::load;
 use text::save::save;
 use verbs::tokens::{Span, text_of};
 
-fn tell(rt: &HostRuntime, s: &[u8], len: usize) {
-    fail::tell(rt, text_of(s, Span { from: 0, to: len }));
-}
-
-fn put_wrong(out: &mut [u8], n: u64, why: Why) -> usize
-    ensures { Puts (wrong_text n why) 0 out.old out.new result }
+#[tactic(auto, using(print::proofs::Lines::lines), unfolding(crate::specs::Texts::wrong_text))]
+fn put_wrong<const N: usize>(line: &mut Line<N>, stop: Stop)
+    ensures { line.new ≡ laid N line.old (wrong_text stop.line stop.why) }
 {
-    let a = put_text(out, 0, b"line ");
-    let b = put_decimal(out, a, n);
-    let c = put_text(out, b, b": ");
-    let d = put_why(out, c, why);
-    put_text(out, d, b"\n")
+    line.put(b"line ");
+    line.decimal(stop.line);
+    line.put(b": ");
+    put_why(line, stop.why);
+    line.put(b"\n");
 }
 
-fn wrong(rt: &HostRuntime, n: u64, why: Why) {
-    let mut out = [0u8; 160];
-    let len = put_wrong(&mut out, n, why);
-    tell(rt, &out, len);
-}
-
-fn put_refused(out: &mut [u8], rack: &[u8], v: Verdict) -> usize
-    ensures { Puts (refused_text rack.now v) 0 out.old out.new result }
+#[tactic(auto, using(print::proofs::Lines::lines), unfolding(crate::specs::Texts::refused_text))]
+fn put_refused<const N: usize>(line: &mut Line<N>, rack: &[u8], v: Verdict)
+    ensures { line.new ≡ laid N line.old (refused_text rack.now v) }
 {
-    let a = put_text(out, 0, b"not written: ");
-    let b = put_refusal(out, a, rack, v);
-    put_text(out, b, b"\n")
-}
-
-fn refused(rt: &HostRuntime, rack: &[u8], v: Verdict) {
-    let mut out = [0u8; 160];
-    let len = put_refused(&mut out, rack, v);
-    tell(rt, &out, len);
+    line.put(b"not written: ");
+    put_refusal(line, rack, v);
+    line.put(b"\n");
 }
 
 fn leave(rt: &HostRuntime, rack: &[u8]) {
     let mut named = [0u8; PATH_MAX];
-    let Some(n) = path(rt, 2, b"RACK", &mut named) else {
-        return;
-    };
-    save(rt, &named[0..n], rack);
+    if let Some(n) = path(rt, 2, b"RACK", &mut named) {
+        save(rt, &named[..n], rack);
+    }
 }
 
-fn run(rt: &HostRuntime, text: &[u8], body: &mut [u8], out: &mut [u8]) {
-    let made = make_rack(text, body, out);
-    match made {
-        Made::Rack(n) => leave(rt, text_of(out, Span { from: 0, to: n })),
-        Made::Wrong(n, why) => wrong(rt, n, why),
-        Made::Refused(n, v) => refused(rt, text_of(out, Span { from: 0, to: n }), v),
+fn flawed(rt: &HostRuntime, out: &[u8], flaw: Flaw) {
+    let mut line = Line::<160>::new();
+    match flaw {
+        Flaw::Wrong(stop) => put_wrong(&mut line, stop),
+        Flaw::Refused(n, offence) => {
+            let rack = text_of(out, Span { from: 0, to: n });
+            put_refused(&mut line, rack, Err(offence))
+        }
     }
+    tell(rt, line.text());
 }
 
 // Room for a rack, its entries and one body more.
 fn make_text(rt: &HostRuntime, text: &[u8]) {
     let mut body = [0u8; 8480];
     let mut out = [0u8; 74528];
-    run(rt, text, &mut body, &mut out);
+    match make_rack(text, &mut body, &mut out) {
+        Ok(n) => leave(rt, text_of(&out, Span { from: 0, to: n })),
+        Err(flaw) => flawed(rt, &out, flaw),
+    }
 }
 
 // At most 1 MiB.
 fn make_file(rt: &HostRuntime, text: &mut [u8]) {
-    let loaded = load(rt, 1, b"TEXT", text);
-    if !loaded.fine {
+    let Some(len) = load(rt, 1, b"TEXT", text) else {
         return;
-    }
-    let len = loaded.len;
+    };
     if 1048576 < len {
-        fail::tell(rt, b"TEXT has over 1048576 bytes\n");
+        tell(rt, b"TEXT has over 1048576 bytes\n");
         return;
     }
-    make_text(rt, &text[0..len]);
+    make_text(rt, &text[..len]);
 }
 
 fn make_named(rt: &HostRuntime) {
@@ -96,7 +86,7 @@ fn make_named(rt: &HostRuntime) {
 
 fn main(rt: HostRuntime) {
     if count(&rt) != 3 {
-        fail::tell(&rt, b"usage: make TEXT RACK\n");
+        tell(&rt, b"usage: make TEXT RACK\n");
         return;
     }
     make_named(&rt);

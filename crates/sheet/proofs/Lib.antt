@@ -1,6 +1,3 @@
 -- The laws of a rack as text.
 pub mod BlocksShown
 pub mod LabelsMask
-pub mod LinesChosen
-pub mod TagsThere
-pub mod RefusalHeld

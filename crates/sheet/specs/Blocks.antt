@@ -1,5 +1,6 @@
 -- The line of a block. Assumes nothing.
-use Rattle.std.specs.Prelude.{Bool, true, ◌&&◌, List, [], ◌∷◌, ◌++◌, ℕ, eqb, ltb, if◌then◌else◌}
+use Rattle.std.specs.Prelude.{Bool, List, [], ◌∷◌, ◌++◌, ℕ, eqb, ltb, if◌then◌else◌}
+use Rattle.std.specs.List.{list_all}
 use Rattle.print.specs.Ascii.{ascii}
 use Rattle.print.specs.Decimal.{decimal_text}
 use Rattle.print.specs.Hex.{hex_text}
@@ -27,8 +28,7 @@ unfoldable pub counter_line : ℕ → List ℕ → Bool → ℕ → List ℕ
 counter_line n bytes locked counter = block_front n bytes locked ++ (ascii "counter " ++ (decimal_text counter ++ ascii "\n"))
 
 abbrev pub all_zero : List ℕ → Bool
-all_zero [] = true
-all_zero (b ∷ bs) = eqb b 0 && all_zero bs
+all_zero s = list_all (λ b. eqb b 0) s
 
 -- a tag's first line
 unfoldable pub tag_line : List ℕ → List ℕ → ℕ → List ℕ

@@ -1,13 +1,17 @@
 -- Why a rack is refused, in words. Assumes nothing.
-use Rattle.std.specs.Prelude.{List, [], ◌++◌, ℕ, ◌-◌, eqb, if◌then◌else◌}
-use Rattle.frame.specs.declared.verdict.Verdict.{Verdict}
+use Rattle.std.specs.Prelude.{List, [], ◌++◌, ℕ, ◌-◌, eqb, if◌then◌else◌, Ok, Err}
+use Rattle.frame.specs.Judge.{Verdict}
+use Rattle.frame.specs.declared.verdict.Rule.{Rule}
+use Rattle.frame.specs.declared.verdict.Rule.TheVariants.{Length, Head, Entry, Body, Behind}
 use Rattle.label_body.specs.declared.field.Field as label
 use Rattle.label_body.specs.declared.field.Field.TheVariants as l
 use Rattle.label_body.specs.Field as label-places
 use Rattle.chip_body.specs.declared.field.Field as chip
 use Rattle.chip_body.specs.declared.field.Field.TheVariants as c
 use Rattle.chip_body.specs.Field as chip-places
-use Rattle.rack.specs.File.{Kind, Label, Chip, Other, kind_at, start_of}
+use Rattle.rack.specs.declared.tag.Kind.{Kind}
+use Rattle.rack.specs.declared.tag.Kind.TheVariants.{Label, Chip, Other}
+use Rattle.rack.specs.File.{kind_at, start_of}
 use Rattle.rack.specs.Place.{entry_of, within_entry, holder_of}
 use Rattle.print.specs.Ascii.{ascii}
 use Rattle.print.specs.Decimal.{decimal_text}
@@ -58,14 +62,22 @@ unfoldable pub held_words : List ℕ → ℕ → List ℕ
 held_words r place =
     tag_words (holder_of r place) ++ body_words (kind_at r (holder_of r place)) (place - start_of r (holder_of r place))
 
--- 10 the file ends, 11 its first two bytes, 12 an entry, 13 a body, 14 what is behind them
-unfoldable pub words_for : List ℕ → Verdict → List ℕ
-words_for r v =
-    if eqb v.number 10 then ascii "the file ends here, in the middle of a rack"
-    else if eqb v.number 11 then head_words v.place
-    else if eqb v.number 12 then tag_words (entry_of v.place) ++ entry_words (within_entry v.place)
-    else if eqb v.number 13 then held_words r v.place
-    else ascii "bytes behind the last tag"
+-- by the rule that is offended, and where: the file's length, its first two bytes, an entry, a body, what is behind them
+unfoldable pub rule_words : List ℕ → Rule → ℕ → List ℕ
+rule_words r Length place = ascii "the file ends here, in the middle of a rack"
+rule_words r Head place = head_words place
+rule_words r Entry place = tag_words (entry_of place) ++ entry_words (within_entry place)
+rule_words r Body place = held_words r place
+rule_words r Behind place = ascii "bytes behind the last tag"
+
+-- a verdict that names no offence has the last words, at byte 0
+abbrev pub words_for : List ℕ → Verdict → List ℕ
+words_for r (Ok none) = ascii "bytes behind the last tag"
+words_for r (Err o) = rule_words r o.rule o.place
+
+abbrev pub place_of : Verdict → ℕ
+place_of (Ok none) = 0
+place_of (Err o) = o.place
 
 unfoldable pub refusal_text : List ℕ → Verdict → List ℕ
-refusal_text r v = ascii "refused 1: byte " ++ (decimal_text v.place ++ (ascii ": " ++ words_for r v))
+refusal_text r v = ascii "refused 1: byte " ++ (decimal_text (place_of v) ++ (ascii ": " ++ words_for r v))

@@ -1,7 +1,10 @@
 -- A rack as text. Assumes nothing.
-use Rattle.std.specs.Prelude.{List, [], ◌++◌, ℕ, eqb, length, if◌then◌else◌}
+use Rattle.std.specs.Prelude.{List, [], ◌++◌, ℕ, length, Ok, Err}
 use Rattle.frame.specs.Choose.{gather}
-use Rattle.rack.specs.File.{Kind, Label, Chip, Other, count_of, kind_at, verdict_of}
+use Rattle.frame.specs.Judge.{Verdict}
+use Rattle.rack.specs.declared.tag.Kind.{Kind}
+use Rattle.rack.specs.declared.tag.Kind.TheVariants.{Label, Chip, Other}
+use Rattle.rack.specs.File.{count_of, kind_at, verdict_of}
 use Rattle.rack.specs.Facts.{body_of}
 use Rattle.print.specs.Ascii.{ascii}
 use Rattle.print.specs.Decimal.{decimal_text}
@@ -27,5 +30,9 @@ unfoldable pub rack_text : List ℕ → List ℕ
 rack_text r = head_text (count_of r) (length r) ++ gather (count_of r) (tag_at r)
 
 -- any file: the rack, or the line why it is refused
+abbrev pub judged_text : List ℕ → Verdict → List ℕ
+judged_text r (Ok none) = rack_text r
+judged_text r (Err o) = refusal_text r (Err o) ++ ascii "\n"
+
 unfoldable pub sheet_text : List ℕ → List ℕ
-sheet_text r = if eqb (verdict_of r).number 0 then rack_text r else refusal_text r (verdict_of r) ++ ascii "\n"
+sheet_text r = judged_text r (verdict_of r)

@@ -5,7 +5,7 @@ ghost use Rattle.frame.specs.Number.{bytes_of};
 ghost use Rattle.frame.specs.Ending.{bytes_for};
 ghost use Rattle.label_body.specs.Body.{Sized, load_of, blocks_of};
 ghost use Rattle.print.specs.Hex.{uid_text};
-ghost use Rattle.print.specs.Puts.{Puts};
+ghost use Rattle.print.specs.Line.{laid};
 ghost use Rattle.sheet.specs.Labels.{mask_text, mask_field, slot_field, afi_field, dsfid_field, ic_field, byte_fields, label_line, blocks_line, label_head};
 ghost use Rattle.sheet.specs.Labels.{label_block, label_text};
 
@@ -15,145 +15,146 @@ use frame::put::put_number;
 use label::step::Label;
 use label_body::body::{block, load};
 use label_body::locks::lock_on;
-use print::hex::{put_back, put_byte};
-use print::put::{inside, put_decimal, put_nothing, put_text};
+use print::line::Line;
 
 // The bytes of a mask of so many bits.
-fn put_mask_bytes(out: &mut [u8], at: usize, bits: u8, mask: u64) -> usize
-    ensures { Puts (uid_text (bytes_of (bytes_for bits) mask)) at out.old out.new result }
+fn put_mask_bytes<const N: usize>(line: &mut Line<N>, bits: u8, mask: u64)
+    ensures { line.new ≡ laid N line.old (uid_text (bytes_of (bytes_for bits) mask)) }
 {
     let mut bytes = [0u8; 32];
     put_number(&mut bytes, 0, mask, 32);
     let k = (bits as usize + 7) / 8;
-    put_back(out, at, &bytes[0..k])
+    line.back(&bytes[0..k]);
 }
 
 // A mask.
-pub fn put_mask(out: &mut [u8], at: usize, bits: u8, mask: u64) -> usize
-    ensures { Puts (mask_text bits mask) at out.old out.new result }
+#[tactic(auto, using(print::proofs::Lines::lines), unfolding(crate::specs::Labels::mask_text))]
+pub fn put_mask<const N: usize>(line: &mut Line<N>, bits: u8, mask: u64)
+    ensures { line.new ≡ laid N line.old (mask_text bits mask) }
 {
-    let counted = put_decimal(out, at, bits as u64);
-    let parted = put_text(out, counted, b"/");
-    put_mask_bytes(out, parted, bits, mask)
+    line.decimal(bits as u64);
+    line.put(b"/");
+    put_mask_bytes(line, bits, mask);
 }
 
-fn put_mask_field(out: &mut [u8], at: usize, bits: u8, mask: u64) -> usize
-    ensures { Puts (mask_field bits mask) at out.old out.new result }
+#[tactic(auto, using(print::proofs::Lines::lines), unfolding(crate::specs::Labels::mask_field))]
+fn put_mask_field<const N: usize>(line: &mut Line<N>, bits: u8, mask: u64)
+    ensures { line.new ≡ laid N line.old (mask_field bits mask) }
 {
-    if bits == 0 {
-        return put_nothing(out, at);
+    if bits != 0 {
+        line.put(b"  mask ");
+        put_mask(line, bits, mask);
     }
-    let named = put_text(out, at, b"  mask ");
-    put_mask(out, named, bits, mask)
 }
 
-fn put_slot_field(out: &mut [u8], at: usize, l: Label) -> usize
-    ensures { Puts (slot_field l) at out.old out.new result }
+#[tactic(auto, using(print::proofs::Lines::lines), unfolding(crate::specs::Labels::slot_field))]
+fn put_slot_field<const N: usize>(line: &mut Line<N>, l: Label)
+    ensures { line.new ≡ laid N line.old (slot_field l) }
 {
-    if l.slot == 255 {
-        return put_nothing(out, at);
+    if l.slot != 255 {
+        line.put(b"  slot ");
+        line.decimal(l.slot as u64);
+        put_mask_field(line, l.bits, l.mask);
     }
-    let named = put_text(out, at, b"  slot ");
-    let told = put_decimal(out, named, l.slot as u64);
-    put_mask_field(out, told, l.bits, l.mask)
 }
 
-fn put_afi_field(out: &mut [u8], at: usize, l: Label) -> usize
-    ensures { Puts (afi_field l) at out.old out.new result }
+#[tactic(auto, using(print::proofs::Lines::lines), unfolding(crate::specs::Labels::afi_field))]
+fn put_afi_field<const N: usize>(line: &mut Line<N>, l: Label)
+    ensures { line.new ≡ laid N line.old (afi_field l) }
 {
-    let named = put_text(out, at, b"  afi ");
-    let told = put_byte(out, named, l.afi);
-    put_lock_mark(out, told, l.locks % 2 == 1)
+    line.put(b"  afi ");
+    line.byte(l.afi);
+    put_lock_mark(line, l.locks % 2 == 1);
 }
 
-fn put_dsfid_field(out: &mut [u8], at: usize, l: Label) -> usize
-    ensures { Puts (dsfid_field l) at out.old out.new result }
+#[tactic(auto, using(print::proofs::Lines::lines), unfolding(crate::specs::Labels::dsfid_field))]
+fn put_dsfid_field<const N: usize>(line: &mut Line<N>, l: Label)
+    ensures { line.new ≡ laid N line.old (dsfid_field l) }
 {
-    let named = put_text(out, at, b"  dsfid ");
-    let told = put_byte(out, named, l.dsfid);
-    put_lock_mark(out, told, l.locks / 2 % 2 == 1)
+    line.put(b"  dsfid ");
+    line.byte(l.dsfid);
+    put_lock_mark(line, l.locks / 2 % 2 == 1);
 }
 
-fn put_ic_field(out: &mut [u8], at: usize, l: Label) -> usize
-    ensures { Puts (ic_field l) at out.old out.new result }
+#[tactic(auto, using(print::proofs::Lines::lines), unfolding(crate::specs::Labels::ic_field))]
+fn put_ic_field<const N: usize>(line: &mut Line<N>, l: Label)
+    ensures { line.new ≡ laid N line.old (ic_field l) }
 {
-    let named = put_text(out, at, b"  ic ");
-    put_byte(out, named, l.ic)
+    line.put(b"  ic ");
+    line.byte(l.ic);
 }
 
-fn put_byte_fields(out: &mut [u8], at: usize, l: Label) -> usize
-    ensures { Puts (byte_fields l) at out.old out.new result }
+#[tactic(auto, using(print::proofs::Lines::lines), unfolding(crate::specs::Labels::byte_fields))]
+fn put_byte_fields<const N: usize>(line: &mut Line<N>, l: Label)
+    ensures { line.new ≡ laid N line.old (byte_fields l) }
 {
-    let afi = put_afi_field(out, at, l);
-    let dsfid = put_dsfid_field(out, afi, l);
-    put_ic_field(out, dsfid, l)
+    put_afi_field(line, l);
+    put_dsfid_field(line, l);
+    put_ic_field(line, l);
 }
 
-fn put_label_line(out: &mut [u8], at: usize, l: Label) -> usize
-    ensures { Puts (label_line l) at out.old out.new result }
+#[tactic(auto, using(print::proofs::Lines::lines), unfolding(crate::specs::Labels::label_line))]
+fn put_label_line<const N: usize>(line: &mut Line<N>, l: Label)
+    ensures { line.new ≡ laid N line.old (label_line l) }
 {
-    let named = put_text(out, at, b"  state ");
-    let told = put_label_state(out, named, l.state);
-    let fields = put_byte_fields(out, told, l);
-    let slot = put_slot_field(out, fields, l);
-    put_text(out, slot, b"\n")
+    line.put(b"  state ");
+    put_label_state(line, l.state);
+    put_byte_fields(line, l);
+    put_slot_field(line, l);
+    line.put(b"\n");
 }
 
-fn put_blocks_line(out: &mut [u8], at: usize, l: Label) -> usize
-    ensures { Puts (blocks_line l) at out.old out.new result }
+#[tactic(auto, using(print::proofs::Lines::lines), unfolding(crate::specs::Labels::blocks_line))]
+fn put_blocks_line<const N: usize>(line: &mut Line<N>, l: Label)
+    ensures { line.new ≡ laid N line.old (blocks_line l) }
 {
-    let named = put_text(out, at, b"  blocks ");
-    let counted = put_decimal(out, named, l.blocks as u64 + 1);
-    let parted = put_text(out, counted, b" of ");
-    let sized = put_decimal(out, parted, l.size as u64 + 1);
-    put_text(out, sized, b"\n")
+    line.put(b"  blocks ");
+    line.decimal(l.blocks as u64 + 1);
+    line.put(b" of ");
+    line.decimal(l.size as u64 + 1);
+    line.put(b"\n");
 }
 
 // A label's first three lines; it is tag i.
-pub fn put_label_head(out: &mut [u8], at: usize, i: usize, l: Label) -> usize
-    ensures { Puts (label_head i l) at out.old out.new result }
+#[tactic(auto, using(print::proofs::Lines::lines), unfolding(crate::specs::Labels::label_head))]
+pub fn put_label_head<const N: usize>(line: &mut Line<N>, i: usize, l: Label)
+    ensures { line.new ≡ laid N line.old (label_head i l) }
 {
-    let uid = l.uid;
-    let named = put_tag_line(out, at, b"label ", uid, i);
-    let told = put_label_line(out, named, l);
-    put_blocks_line(out, told, l)
+    put_tag_line(line, b"label ", l.uid, i);
+    put_label_line(line, l);
+    put_blocks_line(line, l);
 }
 
 // The line of block n, if it has one.
-pub fn put_label_block(out: &mut [u8], at: usize, body: &[u8], n: u8) -> usize
+#[tactic(auto, using(print::proofs::Lines::lines), unfolding(crate::specs::Labels::label_block))]
+pub fn put_label_block<const N: usize>(line: &mut Line<N>, body: &[u8], n: u8)
     requires { Sized body.now × (n ≤ get_or body.now 11 0) }
-    ensures { Puts (label_block body.now n) at out.old out.new result }
+    ensures { line.new ≡ laid N line.old (label_block body.now n) }
 {
     let bytes = block(body, n);
-    let lock = lock_on(body, n);
-    if lock == 1 {
-        return put_block_line(out, at, n, bytes, lock == 1);
+    let locked = lock_on(body, n) == 1;
+    if locked || !is_all_zero(bytes) {
+        put_block_line(line, n, bytes, locked);
     }
-    if is_all_zero(bytes) {
-        return put_nothing(out, at);
-    }
-    put_block_line(out, at, n, bytes, lock == 1)
 }
 
-fn put_label_blocks(out: &mut [u8], at: usize, body: &[u8], blocks: usize) -> usize
+#[tactic(auto, using(print::proofs::Lines::gathered))]
+fn put_label_blocks<const N: usize>(line: &mut Line<N>, body: &[u8], blocks: usize)
     requires { Sized body.now × (blocks ≡ blocks_of body.now) }
-    ensures { Puts (gather blocks (label_block body.now)) at out.old out.new result }
+    ensures { line.new ≡ laid N line.old (gather blocks (label_block body.now)) }
 {
-    let mut p = inside(out.len(), at);
-    let mut n = 0;
-    while n < blocks {
-        p = put_label_block(out, p, body, n as u8);
-        n += 1;
+    for n in 0..blocks {
+        put_label_block(line, body, n as u8);
     }
-    p
 }
 
 // A label, which is tag i.
-pub fn put_label(out: &mut [u8], at: usize, i: usize, body: &[u8]) -> usize
+#[tactic(auto, using(print::proofs::Lines::lines, label_body::proofs::BodyRoom::sized_long), unfolding(crate::specs::Labels::label_text, label_body::specs::Body::load_of))]
+pub fn put_label<const N: usize>(line: &mut Line<N>, i: usize, body: &[u8])
     requires { Sized body.now }
-    ensures { Puts (label_text i body.now) at out.old out.new result }
+    ensures { line.new ≡ laid N line.old (label_text i body.now) }
 {
     let l = load(body);
-    let head = put_label_head(out, at, i, l);
-    put_label_blocks(out, head, body, l.blocks as usize + 1)
+    put_label_head(line, i, l);
+    put_label_blocks(line, body, l.blocks as usize + 1);
 }

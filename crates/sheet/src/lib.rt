@@ -1,4 +1,4 @@
-// A rack as text, and why a rack is refused. Each function lays a text into a buffer that is lent, from a place on, and returns the place behind it.
+// A rack as text, and why a rack is refused. Each function lays a text into a line.
 #![tactic(auto)]
 
 pub mod blocks;

@@ -1,137 +1,140 @@
 // Why a rack is refused, in words.
-ghost use Rattle.std.specs.Prelude.{◌≡◌, [], ◌-◌};
-ghost use Rattle.rack.specs.File.{kind_of, kind_at, start_of};
-ghost use Rattle.rack.specs.Place.{entry_of, within_entry, holder_of};
-ghost use Rattle.print.specs.Puts.{Puts};
-ghost use Rattle.sheet.specs.Refusal.{head_words, entry_words, lock_words, label_words, chip_words, body_words, tag_words, held_words, words_for, refusal_text};
+ghost use Rattle.std.specs.Prelude.{◌≡◌, ◌-◌};
+ghost use Rattle.print.specs.Line.{laid};
+ghost use Rattle.sheet.specs.Refusal.{head_words, entry_words, lock_words, label_words, chip_words, body_words, tag_words, held_words, rule_words, words_for, place_of, refusal_text};
 
-use frame::verdict::Verdict;
-use print::put::{put_decimal, put_nothing, put_text};
+use chip_body::field as chip_field;
+use frame::verdict::{Rule, Verdict};
+use label_body::field as label_field;
+use print::line::Line;
 use rack::place::{entry_holding, holder, within_entry};
-use rack::tag::{CHIP, LABEL};
+use rack::tag::Kind;
 
-fn put_head_words(out: &mut [u8], at: usize, place: usize) -> usize
-    ensures { Puts (head_words place) at out.old out.new result }
+#[tactic(auto, using(print::proofs::Lines::lines), unfolding(crate::specs::Refusal::head_words))]
+fn put_head_words<const N: usize>(line: &mut Line<N>, place: usize)
+    ensures { line.new ≡ laid N line.old (head_words place) }
 {
-    if place == 0 {
-        return put_text(out, at, b"edition is not 1");
-    }
-    put_text(out, at, b"more than 64 tags")
+    line.put(match place {
+        0 => b"edition is not 1",
+        _ => b"more than 64 tags",
+    });
 }
 
-fn put_entry_words(out: &mut [u8], at: usize, k: usize) -> usize
-    ensures { Puts (entry_words k) at out.old out.new result }
+#[tactic(auto, using(print::proofs::Lines::lines), unfolding(crate::specs::Refusal::entry_words))]
+fn put_entry_words<const N: usize>(line: &mut Line<N>, k: usize)
+    ensures { line.new ≡ laid N line.old (entry_words k) }
 {
-    if k == 0 {
-        return put_text(out, at, b"kind is neither 1 nor 2");
-    }
-    if k == 1 {
-        return put_text(out, at, b"not 0");
-    }
-    if k == 2 {
-        return put_text(out, at, b"length of the body");
-    }
-    put_text(out, at, b"place of the body")
+    line.put(match k {
+        0 => b"kind is neither 1 nor 2",
+        1 => b"not 0",
+        2 => b"length of the body",
+        _ => b"place of the body",
+    });
 }
 
-fn put_lock_words(out: &mut [u8], at: usize, n: usize) -> usize
-    ensures { Puts (lock_words n) at out.old out.new result }
-{
-    let named = put_text(out, at, b"lock of block ");
-    put_decimal(out, named, n as u64)
-}
-
-fn put_label_words(out: &mut [u8], at: usize, field: label_body::field::Field) -> usize
-    ensures { Puts (label_words field) at out.old out.new result }
+#[tactic(auto, using(print::proofs::Lines::lines), unfolding(crate::specs::Refusal::label_words, crate::specs::Refusal::lock_words, print::specs::Named::word_number))]
+fn put_label_words<const N: usize>(line: &mut Line<N>, field: label_field::Field)
+    ensures { line.new ≡ laid N line.old (label_words field) }
 {
     match field {
-        label_body::field::Field::Other => put_nothing(out, at),
-        label_body::field::Field::Locks => put_text(out, at, b"locks"),
-        label_body::field::Field::Blocks => put_text(out, at, b"blocks do not fit the length"),
-        label_body::field::Field::Size => put_text(out, at, b"block length"),
-        label_body::field::Field::State => put_text(out, at, b"state"),
-        label_body::field::Field::Slot => put_text(out, at, b"slot"),
-        label_body::field::Field::Bits => put_text(out, at, b"mask length"),
-        label_body::field::Field::Mask => put_text(out, at, b"mask"),
-        label_body::field::Field::Zero => put_text(out, at, b"not 0"),
-        label_body::field::Field::Lock(n) => put_lock_words(out, at, n),
+        label_field::Field::Other => {}
+        label_field::Field::Locks => line.put(b"locks"),
+        label_field::Field::Blocks => line.put(b"blocks do not fit the length"),
+        label_field::Field::Size => line.put(b"block length"),
+        label_field::Field::State => line.put(b"state"),
+        label_field::Field::Slot => line.put(b"slot"),
+        label_field::Field::Bits => line.put(b"mask length"),
+        label_field::Field::Mask => line.put(b"mask"),
+        label_field::Field::Zero => line.put(b"not 0"),
+        label_field::Field::Lock(n) => line.word_number(b"lock of block ", n as u64),
     }
 }
 
-fn put_chip_words(out: &mut [u8], at: usize, field: chip_body::field::Field) -> usize
-    ensures { Puts (chip_words field) at out.old out.new result }
+#[tactic(auto, using(print::proofs::Lines::lines), unfolding(crate::specs::Refusal::chip_words))]
+fn put_chip_words<const N: usize>(line: &mut Line<N>, field: chip_field::Field)
+    ensures { line.new ≡ laid N line.old (chip_words field) }
 {
-    match field {
-        chip_body::field::Field::Other => put_nothing(out, at),
-        chip_body::field::Field::State => put_text(out, at, b"state"),
-        chip_body::field::Field::Id => put_text(out, at, b"Chip_ID"),
-        chip_body::field::Field::Reload => put_text(out, at, b"reload"),
-        chip_body::field::Field::Fixed => put_text(out, at, b"fixed-ID option"),
-    }
+    line.put(match field {
+        chip_field::Field::Other => b"",
+        chip_field::Field::State => b"state",
+        chip_field::Field::Id => b"Chip_ID",
+        chip_field::Field::Reload => b"reload",
+        chip_field::Field::Fixed => b"fixed-ID option",
+    });
 }
 
-fn put_body_words(out: &mut [u8], at: usize, kind: u8, place: usize) -> usize
-    ensures { Puts (body_words (kind_of kind) place) at out.old out.new result }
+#[tactic(auto, using(print::proofs::Lines::lines), unfolding(crate::specs::Refusal::body_words))]
+fn put_body_words<const N: usize>(line: &mut Line<N>, kind: Kind, place: usize)
+    ensures { line.new ≡ laid N line.old (body_words kind place) }
 {
-    if kind == LABEL {
-        return put_label_words(out, at, label_body::field::field_at(place));
+    match kind {
+        Kind::Label => put_label_words(line, label_field::field_at(place)),
+        Kind::Chip => put_chip_words(line, chip_field::field_at(place)),
+        Kind::Other => {}
     }
-    if kind == CHIP {
-        return put_chip_words(out, at, chip_body::field::field_at(place));
-    }
-    put_nothing(out, at)
 }
 
-fn put_tag_words(out: &mut [u8], at: usize, i: usize) -> usize
-    ensures { Puts (tag_words i) at out.old out.new result }
+#[tactic(auto, using(print::proofs::Lines::lines), unfolding(crate::specs::Refusal::tag_words))]
+fn put_tag_words<const N: usize>(line: &mut Line<N>, i: usize)
+    ensures { line.new ≡ laid N line.old (tag_words i) }
 {
-    let named = put_text(out, at, b"tag ");
-    let numbered = put_decimal(out, named, i as u64);
-    put_text(out, numbered, b": ")
+    line.put(b"tag ");
+    line.decimal(i as u64);
+    line.put(b": ");
 }
 
-fn below(start: usize, place: usize) -> usize
-    ensures { result ≡ place - start }
-{
-    if place < start {
-        return 0;
-    }
-    place - start
-}
-
-fn put_held_words(out: &mut [u8], at: usize, rack: &[u8], place: usize) -> usize
-    ensures { Puts (held_words rack.now place) at out.old out.new result }
+#[tactic(auto, using(print::proofs::Lines::lines), unfolding(crate::specs::Refusal::held_words))]
+fn put_held_words<const N: usize>(line: &mut Line<N>, rack: &[u8], place: usize)
+    ensures { line.new ≡ laid N line.old (held_words rack.now place) }
 {
     let h = holder(rack, place);
-    let named = put_tag_words(out, at, h.tag);
-    put_body_words(out, named, h.kind, below(h.start, place))
+    put_tag_words(line, h.tag);
+    put_body_words(line, h.kind, place.saturating_sub(h.start));
 }
 
-fn put_words_for(out: &mut [u8], at: usize, rack: &[u8], v: Verdict) -> usize
-    ensures { Puts (words_for rack.now v) at out.old out.new result }
+#[tactic(auto, using(print::proofs::Lines::lines), unfolding(crate::specs::Refusal::rule_words))]
+fn put_rule_words<const N: usize>(line: &mut Line<N>, rack: &[u8], rule: Rule, place: usize)
+    ensures { line.new ≡ laid N line.old (rule_words rack.now rule place) }
 {
-    if v.number == 10 {
-        return put_text(out, at, b"the file ends here, in the middle of a rack");
+    match rule {
+        Rule::Length => line.put(b"the file ends here, in the middle of a rack"),
+        Rule::Head => put_head_words(line, place),
+        Rule::Entry => {
+            put_tag_words(line, entry_holding(place));
+            put_entry_words(line, within_entry(place));
+        }
+        Rule::Body => put_held_words(line, rack, place),
+        Rule::Behind => line.put(b"bytes behind the last tag"),
     }
-    if v.number == 11 {
-        return put_head_words(out, at, v.place);
+}
+
+// What a verdict says; one that names no offence has the last words.
+fn put_words_for<const N: usize>(line: &mut Line<N>, rack: &[u8], v: Verdict)
+    ensures { line.new ≡ laid N line.old (words_for rack.now v) }
+{
+    match v {
+        Err(offence) => put_rule_words(line, rack, offence.rule, offence.place),
+        Ok(()) => line.put(b"bytes behind the last tag"),
     }
-    if v.number == 12 {
-        let named = put_tag_words(out, at, entry_holding(v.place));
-        return put_entry_words(out, named, within_entry(v.place));
+}
+
+// Where a verdict finds an offence.
+fn place_of(v: Verdict) -> usize
+    ensures { result ≡ place_of v }
+{
+    match v {
+        Err(offence) => offence.place,
+        Ok(()) => 0,
     }
-    if v.number == 13 {
-        return put_held_words(out, at, rack, v.place);
-    }
-    put_text(out, at, b"bytes behind the last tag")
 }
 
 // Why a rack is refused: what a verdict on it says, in one line without its end.
-pub fn put_refusal(out: &mut [u8], at: usize, rack: &[u8], v: Verdict) -> usize
-    ensures { Puts (refusal_text rack.now v) at out.old out.new result }
+#[tactic(auto, using(print::proofs::Lines::lines), unfolding(crate::specs::Refusal::refusal_text))]
+pub fn put_refusal<const N: usize>(line: &mut Line<N>, rack: &[u8], v: Verdict)
+    ensures { line.new ≡ laid N line.old (refusal_text rack.now v) }
 {
-    let named = put_text(out, at, b"refused 1: byte ");
-    let placed = put_decimal(out, named, v.place as u64);
-    let parted = put_text(out, placed, b": ");
-    put_words_for(out, parted, rack, v)
+    line.put(b"refused 1: byte ");
+    line.decimal(place_of(v) as u64);
+    line.put(b": ");
+    put_words_for(line, rack, v);
 }

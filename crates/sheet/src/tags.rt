@@ -1,75 +1,73 @@
 // A rack as text, or the line why it is refused.
 ghost use Rattle.std.specs.Prelude.{◌≡◌};
 ghost use Rattle.frame.specs.Choose.{gather};
-ghost use Rattle.rack.specs.File.{count_of, kind_of};
-ghost use Rattle.rack.specs.Facts.{RackFine, TagFine};
-ghost use Rattle.print.specs.Puts.{Puts};
+ghost use Rattle.rack.specs.File.{count_of};
+ghost use Rattle.rack.specs.Facts.{TagFine};
+ghost use Rattle.print.specs.Line.{laid};
 ghost use Rattle.sheet.specs.Tags.{head_text, tag_text, tag_at, rack_text, sheet_text};
 
 use crate::chips::put_chip;
 use crate::labels::put_label;
 use crate::refusal::put_refusal;
 use crate::words::put_tags_word;
-use print::put::{inside, put_decimal, put_nothing, put_text};
-use rack::file::{body_of, count, judge, kind_of};
-use rack::tag::{CHIP, LABEL};
+use print::line::Line;
+use rack::tag::Kind;
+use rack::whole::Rack;
 
 // The first line: n tags in a file of so many bytes.
-pub fn put_head(out: &mut [u8], at: usize, n: usize, len: usize) -> usize
-    ensures { Puts (head_text n len) at out.old out.new result }
+#[tactic(auto, using(print::proofs::Lines::lines), unfolding(crate::specs::Tags::head_text))]
+pub fn put_head<const N: usize>(line: &mut Line<N>, n: usize, len: usize)
+    ensures { line.new ≡ laid N line.old (head_text n len) }
 {
-    let named = put_text(out, at, b"rack edition 1  # ");
-    let counted = put_decimal(out, named, n as u64);
-    let parted = put_tags_word(out, counted, n);
-    let sized = put_decimal(out, parted, len as u64);
-    put_text(out, sized, b" bytes\n")
+    line.put(b"rack edition 1  # ");
+    line.decimal(n as u64);
+    put_tags_word(line, n);
+    line.decimal(len as u64);
+    line.put(b" bytes\n");
 }
 
 // Tag i, by its kind.
-pub fn put_tag(out: &mut [u8], at: usize, kind: u8, i: usize, body: &[u8]) -> usize
-    requires { TagFine (kind_of kind) body.now }
-    ensures { Puts (tag_text (kind_of kind) i body.now) at out.old out.new result }
+#[tactic(auto, using(print::proofs::Lines::lines, rack::proofs::TagKinds::label_sized, rack::proofs::TagKinds::chip_80), unfolding(crate::specs::Tags::tag_text))]
+pub fn put_tag<const N: usize>(line: &mut Line<N>, kind: Kind, i: usize, body: &[u8])
+    requires { TagFine kind body.now }
+    ensures { line.new ≡ laid N line.old (tag_text kind i body.now) }
 {
-    if kind == LABEL {
-        return put_label(out, at, i, body);
+    match kind {
+        Kind::Label => put_label(line, i, body),
+        Kind::Chip => put_chip(line, i, body),
+        Kind::Other => {}
     }
-    if kind == CHIP {
-        return put_chip(out, at, i, body);
-    }
-    put_nothing(out, at)
 }
 
-fn put_tags(out: &mut [u8], at: usize, rack: &[u8], n: usize) -> usize
-    requires { RackFine rack.now × (n ≡ count_of rack.now) }
-    ensures { Puts (gather n (tag_at rack.now)) at out.old out.new result }
+#[tactic(auto, using(print::proofs::Lines::gathered), unfolding(crate::specs::Tags::tag_at))]
+fn put_tags<const N: usize>(line: &mut Line<N>, rack: &Rack)
+    ensures { line.new ≡ laid N line.old (gather (count_of rack.now) (tag_at rack.now)) }
 {
-    let mut p = inside(out.len(), at);
-    let mut i = 0;
-    while i < n {
-        p = put_tag(out, p, kind_of(rack, i), i, body_of(rack, i));
-        i += 1;
+    let n = rack.count();
+    for i in 0..n {
+        put_tag(line, rack.kind(i), i, rack.body(i));
     }
-    p
 }
 
 // A rack that is well-formed.
-pub fn put_rack(out: &mut [u8], at: usize, rack: &[u8]) -> usize
-    requires { RackFine rack.now }
-    ensures { Puts (rack_text rack.now) at out.old out.new result }
+#[tactic(auto, using(print::proofs::Lines::lines), unfolding(crate::specs::Tags::rack_text))]
+pub fn put_rack<const N: usize>(line: &mut Line<N>, rack: &Rack)
+    ensures { line.new ≡ laid N line.old (rack_text rack.now) }
 {
-    let n = count(rack);
-    let head = put_head(out, at, n, rack.len());
-    put_tags(out, head, rack, n)
+    put_head(line, rack.count(), rack.bytes().len());
+    put_tags(line, rack);
 }
 
 // Any file.
-pub fn put_sheet(out: &mut [u8], at: usize, rack: &[u8]) -> usize
-    ensures { Puts (sheet_text rack.now) at out.old out.new result }
+#[tactic(auto, using(print::proofs::Lines::lines), unfolding(crate::specs::Tags::sheet_text))]
+pub fn put_sheet<const N: usize>(line: &mut Line<N>, file: &[u8])
+    ensures { line.new ≡ laid N line.old (sheet_text file.now) }
 {
-    let v = judge(rack);
-    if v.number == 0 {
-        return put_rack(out, at, rack);
+    match Rack::judged(file) {
+        Ok(rack) => put_rack(line, &rack),
+        Err(offence) => {
+            put_refusal(line, file, Err(offence));
+            line.put(b"\n");
+        }
     }
-    let refused = put_refusal(out, at, rack, v);
-    put_text(out, refused, b"\n")
 }

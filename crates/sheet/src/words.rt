@@ -1,89 +1,74 @@
 // Words that a number or a test chooses.
-ghost use Rattle.print.specs.Puts.{Puts};
+ghost use Rattle.std.specs.Prelude.{◌≡◌};
+ghost use Rattle.print.specs.Line.{laid};
 ghost use Rattle.sheet.specs.Words.{label_state, chip_state, yes_or_no, lock_mark, lock_column, blanks_behind, tags_word};
 
-use print::put::{put_nothing, put_text};
+use print::line::Line;
 
-pub fn put_label_state(out: &mut [u8], at: usize, s: u8) -> usize
-    ensures { Puts (label_state s) at out.old out.new result }
+#[tactic(auto, using(print::proofs::Lines::lines), unfolding(crate::specs::Words::label_state))]
+pub fn put_label_state<const N: usize>(line: &mut Line<N>, s: u8)
+    ensures { line.new ≡ laid N line.old (label_state s) }
 {
-    if s == 0 {
-        return put_text(out, at, b"off");
-    }
-    if s == 1 {
-        return put_text(out, at, b"ready");
-    }
-    if s == 2 {
-        return put_text(out, at, b"quiet");
-    }
-    put_text(out, at, b"selected")
+    line.put(match s {
+        0 => b"off",
+        1 => b"ready",
+        2 => b"quiet",
+        _ => b"selected",
+    });
 }
 
-pub fn put_chip_state(out: &mut [u8], at: usize, s: u8) -> usize
-    ensures { Puts (chip_state s) at out.old out.new result }
+#[tactic(auto, using(print::proofs::Lines::lines), unfolding(crate::specs::Words::chip_state))]
+pub fn put_chip_state<const N: usize>(line: &mut Line<N>, s: u8)
+    ensures { line.new ≡ laid N line.old (chip_state s) }
 {
-    if s == 0 {
-        return put_text(out, at, b"off");
-    }
-    if s == 1 {
-        return put_text(out, at, b"ready");
-    }
-    if s == 2 {
-        return put_text(out, at, b"inventory");
-    }
-    if s == 3 {
-        return put_text(out, at, b"selected");
-    }
-    if s == 4 {
-        return put_text(out, at, b"deselected");
-    }
-    put_text(out, at, b"deactivated")
+    line.put(match s {
+        0 => b"off",
+        1 => b"ready",
+        2 => b"inventory",
+        3 => b"selected",
+        4 => b"deselected",
+        _ => b"deactivated",
+    });
 }
 
-pub fn put_yes_or_no(out: &mut [u8], at: usize, n: u8) -> usize
-    ensures { Puts (yes_or_no n) at out.old out.new result }
+// A choice of two words, and so is `put_tags_word`: one function for both would be given the words, which are all that each says.
+#[tactic(auto, using(print::proofs::Lines::lines), unfolding(crate::specs::Words::yes_or_no))]
+pub fn put_yes_or_no<const N: usize>(line: &mut Line<N>, n: u8)
+    ensures { line.new ≡ laid N line.old (yes_or_no n) }
 {
-    if n == 1 {
-        return put_text(out, at, b"yes");
-    }
-    put_text(out, at, b"no")
+    line.put(if n == 1 { b"yes" } else { b"no" });
 }
 
-pub fn put_lock_mark(out: &mut [u8], at: usize, locked: bool) -> usize
-    ensures { Puts (lock_mark locked) at out.old out.new result }
+#[tactic(auto, using(print::proofs::Lines::lines), unfolding(crate::specs::Words::lock_mark))]
+pub fn put_lock_mark<const N: usize>(line: &mut Line<N>, locked: bool)
+    ensures { line.new ≡ laid N line.old (lock_mark locked) }
 {
     if locked {
-        return put_text(out, at, b" locked");
+        line.put(b" locked");
     }
-    put_nothing(out, at)
 }
 
-pub fn put_lock_column(out: &mut [u8], at: usize, locked: bool) -> usize
-    ensures { Puts (lock_column locked) at out.old out.new result }
+#[tactic(auto, using(print::proofs::Lines::lines), unfolding(crate::specs::Words::lock_column))]
+pub fn put_lock_column<const N: usize>(line: &mut Line<N>, locked: bool)
+    ensures { line.new ≡ laid N line.old (lock_column locked) }
 {
-    if locked {
-        return put_text(out, at, b"  locked");
-    }
-    put_text(out, at, b"        ")
+    line.put(if locked { b"  locked" } else { b"        " });
 }
 
-pub fn put_blanks_behind(out: &mut [u8], at: usize, n: u8) -> usize
-    ensures { Puts (blanks_behind n) at out.old out.new result }
+#[tactic(auto, using(print::proofs::Lines::lines), unfolding(crate::specs::Words::blanks_behind))]
+pub fn put_blanks_behind<const N: usize>(line: &mut Line<N>, n: u8)
+    ensures { line.new ≡ laid N line.old (blanks_behind n) }
 {
-    if n < 10 {
-        return put_text(out, at, b"  ");
-    }
-    if n < 100 {
-        return put_text(out, at, b" ");
-    }
-    put_nothing(out, at)
+    line.put(match n {
+        0..=9 => b"  ",
+        10..=99 => b" ",
+        _ => b"",
+    });
 }
 
-pub fn put_tags_word(out: &mut [u8], at: usize, n: usize) -> usize
-    ensures { Puts (tags_word n) at out.old out.new result }
+#[tactic(auto, using(print::proofs::Lines::lines), unfolding(crate::specs::Words::tags_word))]
+pub fn put_tags_word<const N: usize>(line: &mut Line<N>, n: usize)
+    ensures { line.new ≡ laid N line.old (tags_word n) }
 {
-    if n == 1 {
-        return put_text(out, at, b" tag, ");
-    }
-    put_text(out, at, b" tags, ")
+    line.put(if n == 1 { b" tag, " } else { b" tags, " });
 }

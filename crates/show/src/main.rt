@@ -2,6 +2,7 @@
 #![tactic(auto)]
 
 use print::fail::tell;
+use print::line::Line;
 use print::say::say;
 use sheet::tags::put_sheet;
 use text::args::count;
@@ -10,15 +11,12 @@ use text::file::load;
 // More than the text of the largest rack.
 const ROOM: usize = 1048576;
 
-fn room() -> [u8; ROOM] {
-    [0u8; ROOM]
-}
-
-// What is printed of a file, laid into text and written whole.
-fn show(rt: &HostRuntime, text: &mut [u8], file: &[u8]) {
-    let n = put_sheet(text, 0, file);
-    if n < text.len() {
-        say(rt, &text[0..n]);
+// What is printed of a file, laid into a line and written whole.
+fn show(rt: &HostRuntime, file: &[u8]) {
+    let mut line = Line::<ROOM>::new();
+    put_sheet(&mut line, file);
+    if line.len() < ROOM {
+        say(rt, line.text());
         return;
     }
     tell(rt, b"RACK: its text is too long\n");
@@ -30,11 +28,7 @@ fn main(rt: HostRuntime) {
         return;
     }
     let mut file = [0u8; 65537];
-    let loaded = load(&rt, 1, b"RACK", &mut file);
-    if !loaded.fine {
-        return;
+    if let Some(len) = load(&rt, 1, b"RACK", &mut file) {
+        show(&rt, &file[..len]);
     }
-    let len = loaded.len;
-    let mut text = room();
-    show(&rt, &mut text, &file[0..len]);
 }

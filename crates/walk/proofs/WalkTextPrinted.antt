@@ -1,11 +1,10 @@
 -- What is printed of a rack: the walk's own statement, and room for every label that it lists. Assumes nothing.
 use mathlib.Core.Path.{◌≡◌, ap, ap₂, ◌∙◌}
 use mathlib.Core.Logic.{⊎_elim}
-use mathlib.Core.List.{List}
-use Prim.Native.Nat.{ℕ, ◌+◌, ◌*◌, ◌^◌, ◌≤◌, ◌<◌}
+use mathlib.Core.List.{List, []}
+use Prim.Native.Nat.{ℕ, ◌*◌, ◌^◌, ◌≤◌, ◌<◌}
 use native.Mathlib.Omega.{arith}
 use lib.ListN.{length, replicate}
-use lib.Seq.{sets}
 use Rattle.frame.proofs.Bools.{same_or_not}
 use Rattle.request.specs.declared.label.Family.{Family}
 use Rattle.inventory.specs.declared.walk.Walked.{Walked}
@@ -13,8 +12,8 @@ use Rattle.inventory.specs.Walk.{refusal_of, walk_of}
 use Rattle.inventory.specs.Promise.{Promise}
 use Rattle.inventory.proofs.Promise.{accepted, walk_carried, walk_refused}
 use Rattle.inventory.proofs.WalkUids.{uids_few}
-use Rattle.print.specs.Puts.{Puts}
-use Rattle.print.proofs.Puts.{puts_whole, puts_length, puts_inside}
+use Rattle.print.specs.Line.{laid}
+use Rattle.print.proofs.Lines.{laid_whole}
 use Rattle.walk.specs.WalkText.{walk_text, printed}
 use Rattle.walk.proofs.WalkTextPuts.{walk_short}
 
@@ -32,17 +31,10 @@ few_labels {family} {r} {r₁} {list} {list₁} w e f =
     (same_or_not (refusal_of r (length list)) 0)
 
 -- the text of the walk's report and list is what is printed of the rack, and there is room for all of it
-pub printed_all : (family : Family) (rack out : List ℕ) {w : Walked} {list : List ℕ} {n : ℕ} {fin : List ℕ} → w ≡ (walk_of rack family (replicate 512 0)).report
-    → list ≡ (walk_of rack family (replicate 512 0)).list → w.number < 256 → w.rounds < 2 ^ 64 → 8 * w.labels ≤ 512 → length list ≡ 512 → 1117 ≤ length out
-    → Puts (walk_text w list) 0 out fin n
-    → (n ≡ length (printed family rack)) × ((fin ≡ sets out 0 (printed family rack)) × (n ≤ length fin))
+pub printed_all : (family : Family) (rack : List ℕ) {w : Walked} {list line : List ℕ} → w ≡ (walk_of rack family (replicate 512 0)).report
+    → list ≡ (walk_of rack family (replicate 512 0)).list → w.number < 256 → w.rounds < 2 ^ 64 → 8 * w.labels ≤ 512 → length list ≡ 512
+    → line ≡ laid 1117 [] (walk_text w list) → line ≡ printed family rack
 unfolding printed
-printed_all family rack out {w} {list} {n} {fin} e f a b l m o p =
-    let t : walk_text w list ≡ walk_text (walk_of rack family (replicate 512 0)).report (walk_of rack family (replicate 512 0)).list = ap₂ walk_text e f in
+printed_all family rack {w} {list} {line} e f a b l m p =
     let s = walk_short w list a b (omega arith) in
-    let h : 0 + length (walk_text w list) ≤ length out = omega arith in
-    let k = puts_whole p h in
-    let z : n ≡ length (walk_text w list) = omega (arith, k.0) in
-    let y = puts_length p in
-    let x = puts_inside p in
-    (z ∙ ap length t, (k.1 ∙ ap (sets out 0) t, omega arith))
+    p ∙ laid_whole 1117 (walk_text w list) (omega arith) ∙ ap₂ walk_text e f

@@ -2,8 +2,9 @@
 use Rattle.std.specs.Prelude.{if◌then◌else◌}
 use mathlib.Core.Path.{◌≡◌, refl, ap, sym, ◌∙◌}
 use mathlib.Core.Bool.{Bool, true, false}
-use mathlib.Core.List.{List, [], ◌∷◌, ◌++◌}
+use mathlib.Core.List.{List, [], ◌∷◌, ◌++◌, append_assoc}
 use Prim.Native.Nat.{ℕ, zero, suc, ◌+◌, ◌-◌, ◌*◌, ◌^◌, ◌≤◌, ◌<◌}
+use native.Mathlib.Numerals.{add-one}
 use native.Mathlib.Omega.{arith}
 use lib.Dec.{eqb}
 use lib.ListN.{length, drop, take, length-append, length-drop}
@@ -17,18 +18,18 @@ use Rattle.print.proofs.HexPairs.{length_uid}
 use Rattle.inventory.specs.declared.walk.Walked.{Walked}
 use Rattle.walk.specs.WalkText.{uid_lines, walk_text}
 
--- the loop over the UIDs of a list: i of n are laid
-pub uids_one : (list : List ℕ) (n i : ℕ) (u : List ℕ) → i < n → u ≡ part (8 * i) 8 list
-    → uid_lines (n - i) (drop (8 * i) list) ≡ uid_text u ++ (10 ∷ uid_lines (n - (i + 1)) (drop (8 * (i + 1)) list))
-uids_one list n i u h e =
-    let a : n - i ≡ suc (n - (i + 1)) = omega arith in
-    let b : 8 * i + 8 ≡ 8 * (i + 1) = omega arith in
-    rw a
-    (ap (λ (v : List ℕ). uid_text v ++ (10 ∷ uid_lines (n - (i + 1)) (drop 8 (drop (8 * i) list)))) (sym e)
-    ∙ ap (λ (t : List ℕ). uid_text u ++ (10 ∷ uid_lines (n - (i + 1)) t)) (drop-drop 8 (8 * i) list ∙ ap (λ (j : ℕ). drop j list) b))
-
-pub uids_none : (list : List ℕ) (n i : ℕ) → n ≤ i → uid_lines (n - i) (drop (8 * i) list) ≡ []
-uids_none list n i h = let e : n - i ≡ 0 = omega arith in rw e refl
+-- one UID more
+pub uids_more : (n : ℕ) (list : List ℕ) → uid_lines (n + 1) list ≡ uid_lines n list ++ (uid_text (part (8 * n) 8 list) ++ (10 ∷ []))
+uids_more n list = rw add-one (later n list)
+  where
+    later : (n : ℕ) (list : List ℕ) → uid_lines (suc n) list ≡ uid_lines n list ++ (uid_text (part (8 * n) 8 list) ++ (10 ∷ []))
+    later zero list = refl
+    later (suc n) list =
+        let head = uid_text (take 8 list) in
+        let k : 8 + 8 * n ≡ 8 * suc n = omega arith in
+        let e : drop (8 * n) (drop 8 list) ≡ drop (8 * suc n) list = drop-drop (8 * n) 8 list ∙ ap (λ (j : ℕ). drop j list) k in
+        ap (λ (t : List ℕ). head ++ (10 ∷ t)) (later n (drop 8 list) ∙ ap (λ (t : List ℕ). uid_lines n (drop 8 list) ++ (uid_text (take 8 t) ++ (10 ∷ []))) e)
+        ∙ sym (append_assoc head (10 ∷ uid_lines n (drop 8 list)) (uid_text (part (8 * suc n) 8 list) ++ (10 ∷ [])))
 
 -- ---- lengths
 

@@ -23,7 +23,7 @@ use Rattle.print.specs.Ascii.{ascii}
 use Rattle.print.specs.Decimal.{number_line}
 use Rattle.print.specs.Hex.{uid_text}
 use Rattle.text.specs.Runs.{hex_of}
-use Rattle.text.specs.declared.hex.HexRun.TheVariants.{Good}
+use Rattle.std.specs.Prelude.{Ok}
 use Rattle.text.proofs.RunsBack.{uid_read}
 use Rattle.walk.specs.WalkText.{uid_lines, walk_text, printed}
 
@@ -85,5 +85,5 @@ printed_told family rack small z =
     }
 
 -- a line's text is read back as the UID, from its high byte on
-pub line_read : (u : ℕ) → hex_of 8 (uid_text (bytes_of 8 u)) ≡ record { bytes = reverse (bytes_of 8 u); run = Good 8 }
+pub line_read : (u : ℕ) → hex_of 8 (uid_text (bytes_of 8 u)) ≡ record { bytes = reverse (bytes_of 8 u); run = Ok 8 }
 line_read u = let l = length_bytes 8 u in uid_read 8 (bytes_of 8 u) (bytes_small 8 u) (omega arith)

@@ -3,34 +3,22 @@ ghost use Rattle.std.specs.Prelude.{◌≡◌};
 ghost use Rattle.text.specs.Hex.{value_of};
 ghost use Rattle.walk.specs.AfiWord.{by_digits, afi_in};
 
-use text::hex::{Nibble, value};
+use text::hex::value;
 
-#[derive(Clone, Copy)]
-pub enum Asked {
-    Byte(u8),
-    Nothing,
-}
-
-fn by_digits(c: u8, d: u8) -> Asked
+#[tactic(auto, unfolding(crate::specs::AfiWord::by_digits))]
+fn by_digits(c: u8, d: u8) -> Option<u8>
     ensures { result ≡ by_digits (value_of c) (value_of d) }
 {
-    let a = value(c);
-    let Nibble::Digit(h) = a else {
-        return Asked::Nothing;
-    };
-    let b = value(d);
-    let Nibble::Digit(l) = b else {
-        return Asked::Nothing;
-    };
-    Asked::Byte(h * 16 + l)
+    Some(value(c)? * 16 + value(d)?)
 }
 
 // Two hex digits and nothing else: a mistyped AFI must not ask for another family.
-pub fn afi_in(word: &[u8]) -> Asked
+#[tactic(auto, unfolding(crate::specs::AfiWord::afi_in))]
+pub fn afi_in(word: &[u8]) -> Option<u8>
     ensures { result ≡ afi_in word.now }
 {
-    if word.len() != 2 {
-        return Asked::Nothing;
+    match word {
+        [c, d] => by_digits(*c, *d),
+        _ => None,
     }
-    by_digits(word[0], word[1])
 }

@@ -1,4 +1,4 @@
--- The last tag, and then the head. Assumes nothing.
+-- The last tag goes in before the head is laid. Assumes nothing.
 use Rattle.std.proofs.Common.{ap}
 use Rattle.make.specs.declared.lines.Maker.{Maker}
 use Rattle.make.proofs.TagsLaid.{head_laid}

@@ -1,14 +1,9 @@
--- By the tests. Assumes nothing.
-use Rattle.frame.proofs.Tests.{tests}
+-- By the two numbers. Assumes nothing.
+use Rattle.std.proofs.Common.{arith}
+use Rattle.std.proofs.lemmas.Grind.{common_steps}
 use Rattle.sheet.specs.Chips.{counter?}
 use Rattle.sheet.proofs.chips.is_counter.Goals as goal
 
-pub returns-then-a-lt5 : goal.returns-then-a-lt5
-unfolding counter?
-returns-then-a-lt5 c =
-    search tests
-
 pub returns : goal.returns
 unfolding counter?
-returns c =
-    search tests
+returns c = grind (arith, common_steps)

@@ -1,10 +1,11 @@
 -- The array holds all bytes, and its first are lent. Assumes nothing.
-use borrow.Author.Rules.{rules}
-use mathlib.Core.Path.{ap}
+use Rattle.std.proofs.Common.{rules, ap, ◌∙◌, ℕ, List}
 use Rattle.print.specs.Hex.{uid_text}
-use Rattle.print.proofs.Puts.{puts_by}
+use Rattle.print.specs.Line.{laid}
 use Rattle.sheet.proofs.LabelsMask.{mask_bytes}
 use Rattle.sheet.proofs.labels.put_mask_bytes.Goals as goal
 
 pub returns : goal.returns
-returns c = puts_by c.put_back.ensures (ap uid_text (mask_bytes _ _ (search rules) c.put_number.ensures.1))
+returns g c =
+    c.back.ensures
+    ∙ ap (λ (s : List ℕ). laid g.row.N c.args.line.now (uid_text s)) (mask_bytes _ _ (search rules) c.put_number.ensures.1)

@@ -1,12 +1,9 @@
--- The tags so far are laid; a turn lays the next. Assumes nothing.
-use Prim.Native.Nat.{◌-◌, ◌≤◌}
+-- The tags so far are laid. Assumes nothing.
+use Rattle.std.proofs.Common.{◌≡◌}
 use Rattle.frame.specs.Choose.{gather}
-use Rattle.print.specs.Puts.{Puts}
+use Rattle.print.specs.Line.{laid}
 use Rattle.sheet.specs.Tags.{tag_at}
 use Rattle.sheet.proofs.tags.put_tags.Given as goal
 
 abbrev pub invariant-loop-i : goal.invariant-loop-i
-invariant-loop-i l = (l.i ≤ l.n) × Puts (gather l.i (tag_at l.rack)) l.at l.initial.out l.out l.p
-
-abbrev pub decreases-loop-i : goal.decreases-loop-i
-decreases-loop-i l = l.n - l.i
+invariant-loop-i g l = l.line ≡ laid g.row.N l.initial.line (gather l.i (tag_at l.rack))

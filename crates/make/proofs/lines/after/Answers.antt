@@ -1,9 +1,0 @@
--- It wraps. Assumes nothing.
-use Rattle.verbs.specs.Data.{place_of}
-use Rattle.std.proofs.Common.{rules}
-use Rattle.make.proofs.lines.after.Goals as goal
-
-pub returns : goal.returns
-unfolding place_of
-returns c =
-    search rules
