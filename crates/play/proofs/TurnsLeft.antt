@@ -1,46 +1,42 @@
--- What a turn leaves and says, by what the line asks and by what was reached. Assumes nothing.
-use Rattle.std.proofs.Common.{◌≡◌, ℕ, ◌-◌, Bool, List, take, sym, refl, ap, ◌∙◌, subst}
-use native.Mathlib.Nat.{sub-zero}
-use Rattle.print.specs.Puts.{Puts}
-use Rattle.print.proofs.Puts.{puts_by}
+-- What a turn leaves and says, by what the line asks. Assumes nothing.
+use Rattle.std.proofs.Common.{◌≡◌, ℕ, Bool, List, take, Ok, sym, refl, ap, ◌∙◌, subst}
+use Rattle.print.specs.Line.{laid}
 use Rattle.rack.specs.Facts.{RackFine}
-use Rattle.script.specs.declared.lines.Action.{Action}
 use Rattle.script.specs.declared.lines.Action.TheVariants as act
+use Rattle.script.specs.Commands.{Answer}
 use Rattle.script.specs.Lines.{Effect, effect, effect_of}
 use Rattle.text.specs.declared.lines.Reached.{Reached}
 use Rattle.text.specs.declared.lines.Reached.TheVariants.{Line}
-use Rattle.play.specs.Told.{outcome_of, event_text, Played}
+use Rattle.play.specs.Told.{out_room, Played}
 use Rattle.play.specs.Turns.{rack_by, DrawsBy, text_by, Turned}
 
 -- from what `action_of` tells of an action, draws and bytes
-module _ (line draws bytes tags : List ℕ) {action : Action} {d b : List ℕ}
-    (h : (action ≡ (effect_of line draws bytes).action) × ((d ≡ (effect_of line draws bytes).draws) × (b ≡ (effect_of line draws bytes).bytes)))
-    (quiet : Bool) (n : ℕ) {at : ℕ} {out out₁ : List ℕ} {r : ℕ} where
-  pub line_turned : (x : Action) {tags₁ draws₁ : List ℕ} → action ≡ x → tags₁ ≡ rack_by x d b tags → RackFine tags₁ → DrawsBy x d draws₁
-      → Puts (text_by x quiet n d b tags draws₁) at out out₁ r → Turned quiet n Line line tags draws bytes at out tags₁ draws₁ b out₁ r
+module _ (line draws bytes tags : List ℕ) {action : Answer} {d b : List ℕ}
+    (h : action ≡ (effect_of line draws bytes).action) (i : d ≡ (effect_of line draws bytes).draws) (j : b ≡ (effect_of line draws bytes).bytes)
+    (quiet : Bool) (n from to : ℕ) {out out₁ : List ℕ} where
+  pub line_turned : (x : Answer) {tags₁ draws₁ : List ℕ} → action ≡ x → tags₁ ≡ rack_by x d b tags → RackFine tags₁ → DrawsBy x d draws₁
+      → out₁ ≡ laid out_room out (text_by x quiet n d b tags draws₁) → Turned quiet n (Line from to) line tags draws bytes out tags₁ draws₁ b out₁
   line_turned x {tags₁} {draws₁} g f ok k p =
       let y = effect_of line draws bytes in
-      let whole : effect x d b ≡ y = rw (sym g ∙ h.0, h.1.0, h.1.1) refl in
+      let whole : effect x d b ≡ y = rw (sym g ∙ h, i, j) refl in
       record {
         leaves =
             record {
               rack = subst (λ (z : Effect). tags₁ ≡ rack_by z.action z.draws z.bytes tags) whole f;
               drawn = subst (λ (z : Effect). DrawsBy z.action z.draws draws₁) whole k;
-              read = h.1.1;
+              read = j;
             };
         fine = ok;
-        text = puts_by p (ap (λ (z : Effect). text_by z.action quiet n z.draws z.bytes tags draws₁) whole);
+        text = p ∙ ap (λ (z : Effect). laid out_room out (text_by z.action quiet n z.draws z.bytes tags draws₁)) whole;
       }
 
-  -- an event takes the first m bytes, as they are lent
-  pub event_turned : (number m : ℕ) {tags₁ : List ℕ} → action ≡ act.Play number m
-      → Played quiet n number (take (m - 0) b) d tags at out tags₁ out₁ r → Turned quiet n Line line tags draws bytes at out tags₁ d b out₁ r
-  event_turned number m g p =
-      let e = sub-zero m in
-      line_turned (act.Play number m) g (p.rack ∙ ap (λ (k : ℕ). (outcome_of tags number (take k b) d).rack) e) p.fine refl
-      (puts_by p.text (ap (λ (k : ℕ). event_text quiet n number (take k b) d tags) e))
+  -- an event takes the first m bytes
+  pub event_turned : (number m : ℕ) {tags₁ : List ℕ} → action ≡ Ok (act.Play number m) → Played quiet n number (take m b) d tags out tags₁ out₁
+      → Turned quiet n (Line from to) line tags draws bytes out tags₁ d b out₁
+  event_turned number m g p = line_turned (Ok (act.Play number m)) g p.rack p.fine refl p.text
 
-pub turned_as : {quiet : Bool} {n : ℕ} {reached : Reached} {line tags draws bytes : List ℕ} {at : ℕ} {out tags₁ draws₁ bytes₁ out₁ : List ℕ} {r : ℕ}
-    (x : Reached) → reached ≡ x → Turned quiet n x line tags draws bytes at out tags₁ draws₁ bytes₁ out₁ r
-    → Turned quiet n reached line tags draws bytes at out tags₁ draws₁ bytes₁ out₁ r
-turned_as x e h = rw e h
+-- the places of a line do not matter to what it leaves
+pub turned_at : {quiet : Bool} {n from to : ℕ} (reached : Reached) {line tags draws bytes out tags₁ draws₁ bytes₁ out₁ : List ℕ} → reached ≡ Line from to
+    → Turned quiet n (Line 0 0) line tags draws bytes out tags₁ draws₁ bytes₁ out₁ → Turned quiet n reached line tags draws bytes out tags₁ draws₁ bytes₁ out₁
+turned_at reached e t =
+    rw e (record { leaves = record { rack = t.leaves.rack; drawn = t.leaves.drawn; read = t.leaves.read }; fine = t.fine; text = t.text })

@@ -1,7 +1,7 @@
 -- All that is said of one event. Assumes nothing.
 use Rattle.std.specs.Prelude.{◌≡◌, ℕ, Bool, List, [], ◌++◌, length, take, replicate, ◌==◌, slice_index, if◌then◌else◌}
 use Rattle.frame.specs.Number.{part}
-use Rattle.print.specs.Puts.{Puts}
+use Rattle.print.specs.Line.{laid}
 use Rattle.request.specs.Signal.{signal_of}
 use Rattle.rack.specs.Facts.{RackFine}
 use Rattle.rack.specs.Tag.{aired}
@@ -41,9 +41,12 @@ beside_reply number frame draws old o =
 unfoldable pub behind_reply : ℕ → List ℕ → List ℕ → List ℕ
 behind_reply number old new = if number == 3 then changes_text old new else if number == 5 then changes_text old new else []
 
--- more than any meaning has
+-- more than any meaning has, and more than twice what is said of an event
 abbrev pub meaning_room : ℕ
 meaning_room = 10240
+
+abbrev pub out_room : ℕ
+out_room = 131072
 
 unfoldable pub told_text : ℕ → ℕ → List ℕ → List ℕ → List ℕ → Outcome → List ℕ
 told_text n number frame draws old o =
@@ -57,8 +60,8 @@ event_text quiet n number frame draws tags =
     if quiet then quiet_text n number o.report o.out
     else told_text n number frame (draws_of tags draws) tags o
 
--- what the call that plays it promises: the rack that it leaves, and the text, laid from a place on
-pub record Played (quiet : Bool) (n number : ℕ) (frame draws tags : List ℕ) (at : ℕ) (out tags₁ out₁ : List ℕ) (r : ℕ) : Type 0 where
+-- what the call that plays it promises: the rack that it leaves, and the text, laid behind what stands in the line
+pub record Played (quiet : Bool) (n number : ℕ) (frame draws tags out tags₁ out₁ : List ℕ) : Type 0 where
   pub rack : tags₁ ≡ (outcome_of tags number frame draws).rack
   pub fine : RackFine tags₁
-  pub text : Puts (event_text quiet n number frame draws tags) at out out₁ r
+  pub text : out₁ ≡ laid out_room out (event_text quiet n number frame draws tags)

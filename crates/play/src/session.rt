@@ -1,183 +1,154 @@
 // All lines of the input, one after the other, and what is said of them.
-ghost use Rattle.std.specs.Prelude.{◌≡◌, ◌<◌, ◌≤◌, true, length};
+ghost use Rattle.std.specs.Prelude.{◌≡◌, ◌<◌, ◌≤◌, true, [], length, replicate};
 ghost use Rattle.rack.specs.Facts.{RackFine};
-ghost use Rattle.play.specs.Facts.{Room};
-ghost use Rattle.play.specs.Session.{stand, start_of, may_wait, Stepped, Laid, Over};
+ghost use Rattle.text.specs.declared.lines.Source.TheVariants.{Holding};
+ghost use Rattle.text.specs.Lines.{Inside};
+ghost use Rattle.play.specs.Told.{out_room};
+ghost use Rattle.play.specs.Session.{stand, stand_of, start_of, line_of, may_wait, Stepped, Laid, Over};
 
+use crate::told::{Desk, OUT};
 use crate::turns::turn;
 use print::fail::tell;
+use print::line::Line;
 use print::say::say;
-use tell::meaning::part_of;
-use text::lines::{Source, at_hand, next};
+use text::lines::{Reached, Source, at_hand, has_ended, next, source_of};
 use text::mark::after_mark;
 
+// A line of less than 262,144 bytes has less than 131,072 bytes in hex.
+const LONGEST: usize = 262144;
+
+const BYTES: usize = 131072;
+
+// So many turns at most follow on one another, which no input outlasts: 2^62.
+const TURNS: u64 = 4611686018427387904;
+
+// Where the program stands between two lines: the reading and its buffer, how many lines were read, the draws, the bytes of the last line, and what is
+// lent to every event. It is made once, since some of it is long.
+#[derive(Drop)]
+pub struct Session {
+    source: Source,
+    n: u64,
+    buf: [u8; LONGEST],
+    draws: [u8; 64],
+    bytes: [u8; BYTES],
+    desk: Desk,
+}
+
+impl Session {
+    // Nothing is read yet, and all draws are 0.
+    pub fn new() -> Self
+        ensures source { result.source ≡ Holding 0 0 }
+        ensures count { result.n ≡ 0 }
+        ensures draws { result.draws ≡ replicate 64 0 }
+        ensures out { result.desk.out ≡ [] }
+    {
+        Session {
+            source: source_of(),
+            n: 0,
+            buf: [0; LONGEST],
+            draws: [0; 64],
+            bytes: [0; BYTES],
+            desk: Desk::new(),
+        }
+    }
+}
+
 // Where line n starts: only the first may have a mark.
+#[tactic(auto, unfolding(crate::specs::Session::start_of))]
 fn start(n: u64, line: &[u8]) -> usize
     ensures value { result ≡ start_of n line.now }
     ensures upper_bound { result ≤ length line.now }
 {
-    if n == 1 {
-        return after_mark(line);
+    if n == 1 { after_mark(line) } else { 0 }
+}
+
+// Line n, where one was reached.
+fn line_in(n: u64, reached: Reached, buf: &[u8]) -> &[u8]
+    requires { Inside reached (length buf.now) }
+    ensures { result.now ≡ line_of n reached buf.now }
+{
+    match reached {
+        Reached::Line(from, to) => {
+            let first = from + start(n, &buf[from..to]);
+            &buf[first..to]
+        }
+        _ => &buf[..0],
     }
-    0
 }
 
-// Where the reading stands, how many lines were read, and where the text laid ends.
-#[derive(Clone, Copy)]
-struct Step {
-    source: Source,
-    n: u64,
-    at: usize,
-}
-
-// Finds the next line and plays it, or what is found instead; what is said of it is laid into out, from a place on.
-fn play_next(
-    rt: &HostRuntime,
-    quiet: bool,
-    source: Source,
-    n: u64,
-    buf: &mut [u8],
-    tags: &mut [u8],
-    draws: &mut [u8],
-    bytes: &mut [u8],
-    old: &mut [u8],
-    answer: &mut [u8],
-    meaning: &mut [u8],
-    out: &mut [u8],
-    at: usize,
-) -> Step
-    requires { RackFine tags.old × Room old.old answer.old meaning.old }
-    ensures { Stepped quiet (stand source buf.old n tags.old draws.old bytes.old)
-        (stand result.source buf.new result.n tags.new draws.new bytes.new) at out.old out.new
-        result.at }
+// Finds the next line and plays it, or what is found instead; what is said of it is laid.
+fn play_next(rt: &HostRuntime, quiet: bool, session: &mut Session, tags: &mut [u8])
+    requires { RackFine tags.old }
+    ensures { Stepped quiet (stand_of session.old tags.old) (stand_of session.new tags.new)
+        session.old.desk.out session.new.desk.out }
 {
     let mut input = rt.stdin();
-    let got = next(rt, &mut input, source, buf);
-    let count = std::num::wrapping_add_u64(n, 1);
-    let from = got.from;
-    let to = got.to;
-    let first = from + start(count, &buf[from..to]);
-    let reached = got.reached;
-    let end = turn(
+    let got = next(rt, &mut input, session.source, &mut session.buf);
+    session.source = got.source;
+    session.n = session.n.wrapping_add(1);
+    turn(
         rt,
         quiet,
-        reached,
-        &buf[first..to],
-        count,
+        got.reached,
+        line_in(session.n, got.reached, &session.buf),
+        session.n,
         tags,
-        draws,
-        bytes,
-        old,
-        answer,
-        meaning,
-        out,
-        at,
+        &mut session.draws,
+        &mut session.bytes,
+        &mut session.desk,
     );
-    let behind = got.source;
-    Step {
-        source: behind,
-        n: count,
-        at: end,
-    }
 }
 
 // Whether what was said may wait for the next line: that one is at hand, and half of the room is left for it, which is more than a line says.
-fn may_wait(source: Source, buf: &[u8], room: usize, at: usize) -> bool
-    ensures { result ≡ may_wait source buf.now room at }
+#[tactic(auto, unfolding(crate::specs::Session::may_wait))]
+fn may_wait(session: &Session) -> bool
+    ensures { result ≡ may_wait session.now.source session.now.buf out_room (length session.now.desk.out) }
 {
-    if source.done {
-        return false;
-    }
-    if room / 2 < at {
-        return false;
-    }
-    at_hand(source, buf)
+    !has_ended(session.source)
+        && session.desk.out.len() <= OUT / 2
+        && at_hand(session.source, &session.buf)
 }
 
-// Plays a line and those that are at hand behind it; what is said of them is laid one behind the other, from the front of out on.
-fn play_some(
-    rt: &HostRuntime,
-    quiet: bool,
-    source: Source,
-    n: u64,
-    buf: &mut [u8],
-    tags: &mut [u8],
-    draws: &mut [u8],
-    bytes: &mut [u8],
-    old: &mut [u8],
-    answer: &mut [u8],
-    meaning: &mut [u8],
-    out: &mut [u8],
-) -> Step
-    requires { RackFine tags.old × Room old.old answer.old meaning.old }
-    ensures { Laid quiet (stand source buf.old n tags.old draws.old bytes.old)
-        (stand result.source buf.new result.n tags.new draws.new bytes.new) out.old out.new
-        result.at }
+// Plays a line and those that are at hand behind it; what is said of them is laid one behind the other.
+fn play_some(rt: &HostRuntime, quiet: bool, session: &mut Session, tags: &mut [u8])
+    requires { RackFine tags.old }
+    ensures { Laid quiet (stand_of session.old tags.old) (stand_of session.new tags.new) session.new.desk.out }
 {
-    let mut s = play_next(
-        rt, quiet, source, n, buf, tags, draws, bytes, old, answer, meaning, out, 0,
-    );
-    let mut left: u64 = 4611686018427387904;
-    while 0 < left {
-        left -= 1;
-        let behind = s.source;
-        let at = s.at;
-        if !may_wait(behind, buf, out.len(), at) {
-            return s;
+    session.desk.out.clear();
+    play_next(rt, quiet, session, tags);
+    for _ in 0..TURNS {
+        if !may_wait(session) {
+            return;
         }
-        s = play_next(
-            rt, quiet, behind, s.n, buf, tags, draws, bytes, old, answer, meaning, out, at,
-        );
+        play_next(rt, quiet, session, tags);
     }
-    s
 }
 
 // Writes the text laid; whether all of it had room and was written. By reckoning it always has room: this is so that none is ever cut.
-fn hand_over(rt: &HostRuntime, out: &[u8], at: usize) -> bool
-    ensures { result ≡ true → at < length out.now }
+fn hand_over(rt: &HostRuntime, out: &Line<OUT>) -> bool
+    ensures { result ≡ true → length out.now < out_room }
 {
-    if at < out.len() {
-        return say(rt, part_of(out, 0, at));
+    if out.len() < OUT {
+        return say(rt, out.text());
     }
     tell(rt, b"output: too long\n");
     false
 }
 
-// Plays every line of the input: at most 2^62 times some lines, which no input outlasts. Whether all that was said was written; if not, it stops there.
-pub fn play_lines(
-    rt: &HostRuntime,
-    quiet: bool,
-    source: Source,
-    buf: &mut [u8],
-    tags: &mut [u8],
-    draws: &mut [u8],
-    bytes: &mut [u8],
-    old: &mut [u8],
-    answer: &mut [u8],
-    meaning: &mut [u8],
-    out: &mut [u8],
-) -> bool
-    requires { RackFine tags.old × Room old.old answer.old meaning.old }
-    ensures { result ≡ true → Over quiet (stand source buf.old 0 tags.old draws.old bytes.old)
-        tags.new }
+// Plays every line of the input, counted from here on. Whether all that was said was written; if not, it stops there.
+pub fn play_lines(rt: &HostRuntime, quiet: bool, session: &mut Session, tags: &mut [u8]) -> bool
+    requires { RackFine tags.old }
+    ensures { result ≡ true → Over quiet (stand session.old.source session.old.buf 0 tags.old session.old.draws session.old.bytes) tags.new }
 {
-    let mut from = source;
-    let mut n: u64 = 0;
-    let mut left: u64 = 4611686018427387904;
-    while 0 < left {
-        left -= 1;
-        let s = play_some(
-            rt, quiet, from, n, buf, tags, draws, bytes, old, answer, meaning, out,
-        );
-        if !hand_over(rt, out, s.at) {
+    session.n = 0;
+    for _ in 0..TURNS {
+        play_some(rt, quiet, session, tags);
+        if !hand_over(rt, &session.desk.out) {
             return false;
         }
-        let behind = s.source;
-        if behind.done {
+        if has_ended(session.source) {
             return true;
         }
-        from = behind;
-        n = s.n;
     }
     false
 }

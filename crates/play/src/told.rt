@@ -1,16 +1,16 @@
 // An event played, and what is said of it.
-ghost use Rattle.std.specs.Prelude.{◌≡◌, ◌≤◌, true, false, length};
-ghost use Rattle.print.specs.Puts.{Puts};
+ghost use Rattle.std.specs.Prelude.{◌≡◌, true, false, []};
+ghost use Rattle.print.specs.Line.{laid};
 ghost use Rattle.request.specs.Signal.{signal_of};
 ghost use Rattle.rack.specs.Facts.{RackFine};
-ghost use Rattle.event.specs.Event.{least};
-ghost use Rattle.play.specs.Facts.{Unchanged, Room};
-ghost use Rattle.play.specs.Told.{left, beside_reply, behind_reply, meaning_room, told_text, Played};
+ghost use Rattle.play.specs.Facts.{Unchanged};
+ghost use Rattle.play.specs.Told.{left, beside_reply, behind_reply, meaning_room, out_room, told_text, Played};
 
-use event::call::{Report, event_on};
-use print::put::{put_nothing, put_text};
-use request::label::{Request, data_of};
-use request::signal::hear;
+use event::call::{LEAST, Report, event_on};
+use print::line::Line;
+use rack::whole::Rack;
+use request::label::data_of;
+use request::signal::{Signal, hear};
 use script::draws::draws_for;
 use tell::line::{put_line, put_quiet};
 use tell::meaning::{part_of, put_answer};
@@ -19,151 +19,137 @@ use trace::changes::put_changes;
 use trace::owners::put_owners;
 use trace::why::put_why;
 
+// The longest rack has as many bytes.
+const RACK: usize = 65536;
+
 // More than any meaning has.
-pub const MEANING: usize = 10240;
+const MEANING: usize = 10240;
+
+// More than twice what is said of an event.
+pub const OUT: usize = 131072;
+
+// What is lent to every event, made once, since some of it is long: for the rack as it was before, for an answer and what that means, and for all that
+// is said.
+#[derive(Drop)]
+pub struct Desk {
+    before: Line<RACK>,
+    answer: [u8; LEAST],
+    meaning: Line<MEANING>,
+    pub out: Line<OUT>,
+}
+
+impl Desk {
+    pub fn new() -> Self
+        ensures { result.out ≡ [] }
+    {
+        Desk {
+            before: Line::new(),
+            answer: [0; LEAST],
+            meaning: Line::new(),
+            out: Line::new(),
+        }
+    }
+}
+
+// An event that was played: what was asked, with which draws, the rack before and behind it, and what came of it.
+#[derive(Drop)]
+struct Happened<'f, 'd, 'a> {
+    number: u8,
+    frame: &'f [u8],
+    signal: Signal,
+    draws: &'d [u8],
+    old: Rack<'a>,
+    tags: Rack<'a>,
+    report: Report,
+    answer: &'a [u8],
+    ghost heard: { signal ≡ signal_of number frame.now },
+}
 
 // What an answer that was alone means, why nobody answered, or who did.
-fn put_beside(
-    out: &mut [u8],
-    number: u8,
-    frame: &[u8],
-    draws: &[u8],
-    report: Report,
-    answer: &[u8],
-    old: &[u8],
-    tags: &[u8],
-) -> usize
-    requires { RackFine old.now × RackFine tags.now }
-    ensures { Puts (beside_reply number frame.now draws.now old.now
-        (left report tags.now answer.now)) 0 out.old out.new result }
+#[tactic(auto, using(print::proofs::Lines::lines), unfolding(crate::specs::Told::beside_reply))]
+fn put_beside(line: &mut Line<MEANING>, e: &Happened)
+    ensures { line.new ≡ laid meaning_room line.old (beside_reply e.now.number e.now.frame.now e.now.draws.now e.now.old
+        (left e.now.report e.now.tags e.now.answer.now)) }
 {
-    if report.answered == 1 {
-        let n = report.length;
-        return put_answer(out, 0, number, hear(number, frame), part_of(answer, 0, n));
+    match e.report.answered {
+        1 => put_answer(
+            line,
+            e.number,
+            e.signal,
+            part_of(e.answer, 0, e.report.length),
+        ),
+        0 => put_why(line, e.number, e.frame, e.signal, &e.tags),
+        _ => put_owners(line, e.signal, data_of(e.frame), e.draws, &e.old),
     }
-    if report.answered == 0 {
-        return put_why(out, 0, number, frame, hear(number, frame), tags);
-    }
-    put_owners(out, 0, hear(number, frame), data_of(frame), draws, old)
 }
 
 // What a frame changed. Most label frames change nothing that is told, and others but one label: of the rest the racks, which are long, are not
 // compared.
-fn put_behind(
-    out: &mut [u8],
-    at: usize,
-    number: u8,
-    request: Request,
-    old: &[u8],
-    tags: &[u8],
-) -> usize
-    requires rack_fine { RackFine old.now × RackFine tags.now }
-    requires unchanged { Unchanged number request old.now tags.now }
-    ensures { Puts (behind_reply number old.now tags.now) at out.old out.new result }
+#[tactic(auto, using(print::proofs::Lines::lines), unfolding(crate::specs::Told::behind_reply))]
+fn put_behind(line: &mut Line<OUT>, e: &Happened)
+    requires { Unchanged e.now.number e.now.signal.label e.now.old e.now.tags }
+    ensures { line.new ≡ laid out_room line.old (behind_reply e.now.number e.now.old e.now.tags) }
 {
-    let call = request.call;
-    let uid = request.uid;
-    if number == 3 {
-        if is_calm(call) {
-            return put_nothing(out, at);
+    let asked = e.signal.label;
+    if e.number == 3 {
+        if !is_calm(asked.call) {
+            put_changes(line, is_one(asked.call), asked.uid, &e.old, &e.tags);
         }
-        return put_changes(out, at, is_one(call), uid, old, tags);
+    } else if e.number == 5 {
+        put_changes(line, false, asked.uid, &e.old, &e.tags);
     }
-    if number == 5 {
-        return put_changes(out, at, false, uid, old, tags);
-    }
-    put_nothing(out, at)
 }
 
 // The line of a reply with what it means, and the lines of what changed. The meaning is laid by itself first.
-fn put_told(
-    out: &mut [u8],
-    at: usize,
-    n: u64,
-    number: u8,
-    frame: &[u8],
-    draws: &[u8],
-    report: Report,
-    answer: &[u8],
-    old: &[u8],
-    tags: &[u8],
-    meaning: &mut [u8],
-) -> usize
-    requires rack_fine { RackFine old.now × RackFine tags.now }
-    requires unchanged { Unchanged number (signal_of number frame.now).label old.now tags.now }
-    requires meaning_len { length meaning.old ≡ meaning_room }
-    ensures { Puts (told_text n number frame.now draws.now old.now
-        (left report tags.now answer.now)) at out.old out.new result }
+fn put_told(out: &mut Line<OUT>, meaning: &mut Line<MEANING>, n: u64, e: &Happened)
+    requires { Unchanged e.now.number e.now.signal.label e.now.old e.now.tags }
+    ensures { out.new ≡ laid out_room out.old (told_text n e.now.number e.now.frame.now e.now.draws.now e.now.old
+        (left e.now.report e.now.tags e.now.answer.now)) }
 {
-    let m = put_beside(meaning, number, frame, draws, report, answer, old, tags);
-    let signal = hear(number, frame);
-    let p = put_line(
+    meaning.clear();
+    put_beside(meaning, e);
+    put_line(
         out,
-        at,
         n,
-        number,
-        signal,
-        report,
-        answer,
-        part_of(meaning, 0, m),
+        e.number,
+        e.signal,
+        e.report,
+        e.answer,
+        meaning.text(),
     );
-    let request = signal.label;
-    put_behind(out, p, number, request, old, tags)
+    put_behind(out, e);
 }
 
-// Plays the event that line n asks, and lays all that is said of it; the rack as it was is kept in `old`. What stood in the buffers before does not matter.
-fn play_told(
-    n: u64,
-    number: u8,
-    frame: &[u8],
-    tags: &mut [u8],
-    draws: &[u8],
-    old: &mut [u8],
-    answer: &mut [u8],
-    meaning: &mut [u8],
-    out: &mut [u8],
-    at: usize,
-) -> usize
-    requires { RackFine tags.old × Room old.old answer.old meaning.old }
-    ensures { Played false n number frame.now draws.now tags.old at out.old tags.new
-        out.new result }
+// Plays the event that line n asks, and lays all that is said of it. What stood in the desk's lines before does not matter.
+fn play_told(n: u64, number: u8, frame: &[u8], tags: &mut [u8], draws: &[u8], desk: &mut Desk)
+    requires { RackFine tags.old }
+    ensures { Played false n number frame.now draws.now tags.old desk.old.out tags.new desk.new.out }
 {
-    let len = put_text(old, 0, tags);
-    let k = draws_for(tags, draws.len());
-    let report = event_on(tags, number, frame, &draws[0..k], answer);
-    put_told(
-        out,
-        at,
-        n,
+    desk.before.clear();
+    desk.before.put(tags);
+    let few = &draws[..draws_for(tags, draws.len())];
+    let report = event_on(tags, number, frame, few, &mut desk.answer);
+    let e = Happened {
         number,
         frame,
-        &draws[0..k],
+        signal: hear(number, frame),
+        draws: few,
+        old: Rack::of(desk.before.text()),
+        tags: Rack::of(tags),
         report,
-        answer,
-        part_of(old, 0, len),
-        tags,
-        meaning,
-    )
+        answer: &desk.answer,
+    };
+    put_told(&mut desk.out, &mut desk.meaning, n, &e);
 }
 
 // Plays it, and lays the reply alone.
-fn play_quietly(
-    n: u64,
-    number: u8,
-    frame: &[u8],
-    tags: &mut [u8],
-    draws: &[u8],
-    answer: &mut [u8],
-    out: &mut [u8],
-    at: usize,
-) -> usize
-    requires { RackFine tags.old × (least ≤ length answer.old) }
-    ensures { Played true n number frame.now draws.now tags.old at out.old tags.new
-        out.new result }
+fn play_quietly(n: u64, number: u8, frame: &[u8], tags: &mut [u8], draws: &[u8], desk: &mut Desk)
+    requires { RackFine tags.old }
+    ensures { Played true n number frame.now draws.now tags.old desk.old.out tags.new desk.new.out }
 {
-    let k = draws_for(tags, draws.len());
-    let report = event_on(tags, number, frame, &draws[0..k], answer);
-    put_quiet(out, at, n, number, report, answer)
+    let few = &draws[..draws_for(tags, draws.len())];
+    let report = event_on(tags, number, frame, few, &mut desk.answer);
+    put_quiet(&mut desk.out, n, number, report, &desk.answer);
 }
 
 pub fn play_event(
@@ -173,18 +159,14 @@ pub fn play_event(
     frame: &[u8],
     tags: &mut [u8],
     draws: &[u8],
-    old: &mut [u8],
-    answer: &mut [u8],
-    meaning: &mut [u8],
-    out: &mut [u8],
-    at: usize,
-) -> usize
-    requires { RackFine tags.old × Room old.old answer.old meaning.old }
-    ensures { Played quiet n number frame.now draws.now tags.old at out.old tags.new
-        out.new result }
+    desk: &mut Desk,
+)
+    requires { RackFine tags.old }
+    ensures { Played quiet n number frame.now draws.now tags.old desk.old.out tags.new desk.new.out }
 {
     if quiet {
-        return play_quietly(n, number, frame, tags, draws, answer, out, at);
+        play_quietly(n, number, frame, tags, draws, desk);
+    } else {
+        play_told(n, number, frame, tags, draws, desk);
     }
-    play_told(n, number, frame, tags, draws, old, answer, meaning, out, at)
 }

@@ -1,52 +1,76 @@
 // One line of the input played, and what is said of it.
-ghost use Rattle.print.specs.Puts.{Puts};
+ghost use Rattle.std.specs.Prelude.{◌≡◌};
+ghost use Rattle.print.specs.Line.{laid};
 ghost use Rattle.rack.specs.Facts.{RackFine};
-ghost use Rattle.text.specs.declared.lines.Reached.TheVariants.{Line};
-ghost use Rattle.play.specs.Facts.{Room};
+ghost use Rattle.text.specs.declared.lines.Reached.TheVariants as got;
+ghost use Rattle.play.specs.Told.{out_room};
 ghost use Rattle.play.specs.Turns.{wrong_text, long_text, draws_text, Turned};
 
-use crate::told::play_event;
+use crate::told::{Desk, OUT, play_event};
 use print::fail::fail;
-use print::hex::put_hex;
-use print::named::put_word_number;
-use print::put::{put_decimal, put_nothing, put_text};
+use print::line::Line;
 use script::lines::{Action, action_of};
 use std::random::RandomSource;
 use text::lines::Reached;
 use verbs::trouble::{Trouble, put_trouble};
 
 // Line n cannot be read.
-fn put_wrong(out: &mut [u8], at: usize, n: u64, trouble: Trouble) -> usize
-    ensures { Puts (wrong_text n trouble) at out.old out.new result }
+#[tactic(auto, using(print::proofs::Lines::lines), unfolding(crate::specs::Turns::wrong_text))]
+fn put_wrong(line: &mut Line<OUT>, n: u64, trouble: Trouble)
+    ensures { line.new ≡ laid out_room line.old (wrong_text n trouble) }
 {
-    let named = put_word_number(out, at, b"line ", n);
-    let opened = put_text(out, named, b": ");
-    let said = put_trouble(out, opened, trouble);
-    put_text(out, said, b"\n")
+    line.word_number(b"line ", n);
+    line.put(b": ");
+    put_trouble(line, trouble);
+    line.put(b"\n");
 }
 
-fn put_long(out: &mut [u8], at: usize, n: u64) -> usize
-    ensures { Puts (long_text n) at out.old out.new result }
+#[tactic(auto, using(print::proofs::Lines::lines), unfolding(crate::specs::Turns::long_text))]
+fn put_long(line: &mut Line<OUT>, n: u64)
+    ensures { line.new ≡ laid out_room line.old (long_text n) }
 {
-    let named = put_word_number(out, at, b"line ", n);
-    put_text(out, named, b": too long\n")
+    line.word_number(b"line ", n);
+    line.put(b": too long\n");
 }
 
 // Draws as a line that asks for them again.
-fn put_draws(out: &mut [u8], at: usize, n: u64, draws: &[u8]) -> usize
-    ensures { Puts (draws_text n draws.now) at out.old out.new result }
+#[tactic(auto, using(print::proofs::Lines::lines), unfolding(crate::specs::Turns::draws_text))]
+fn put_draws(line: &mut Line<OUT>, n: u64, draws: &[u8])
+    ensures { line.new ≡ laid out_room line.old (draws_text n draws.now) }
 {
-    let counted = put_decimal(out, at, n);
-    let named = put_text(out, counted, b" draws");
-    let said = put_hex(out, named, draws);
-    put_text(out, said, b"\n")
+    line.decimal(n);
+    line.put(b" draws");
+    line.hex(draws);
+    line.put(b"\n");
 }
 
 // Draws from the system. What fails is written to standard error, and they stay.
 fn draw(rt: &HostRuntime, draws: &mut [u8]) {
-    match rt.fill_bytes(draws) {
-        Ok(()) => {}
-        Err(why) => fail(rt, b"draws", why),
+    if let Err(why) = rt.fill_bytes(draws) {
+        fail(rt, b"draws", why);
+    }
+}
+
+// One answer of `next`: line n is played, or is too long. What is said of it is laid.
+pub fn turn(
+    rt: &HostRuntime,
+    quiet: bool,
+    reached: Reached,
+    line: &[u8],
+    n: u64,
+    tags: &mut [u8],
+    draws: &mut [u8],
+    bytes: &mut [u8],
+    desk: &mut Desk,
+)
+    requires { RackFine tags.old }
+    ensures { Turned quiet n reached line.now tags.old draws.old bytes.old desk.old.out tags.new
+        draws.new bytes.new desk.new.out }
+{
+    match reached {
+        Reached::Line(_, _) => play_line(rt, quiet, line, n, tags, draws, bytes, desk),
+        Reached::Long => put_long(&mut desk.out, n),
+        Reached::End => {}
     }
 }
 
@@ -59,67 +83,21 @@ fn play_line(
     tags: &mut [u8],
     draws: &mut [u8],
     bytes: &mut [u8],
-    old: &mut [u8],
-    answer: &mut [u8],
-    meaning: &mut [u8],
-    out: &mut [u8],
-    at: usize,
-) -> usize
-    requires { RackFine tags.old × Room old.old answer.old meaning.old }
-    ensures { Turned quiet n Line line.now tags.old draws.old bytes.old at out.old
-        tags.new draws.new bytes.new out.new result }
+    desk: &mut Desk,
+)
+    requires { RackFine tags.old }
+    ensures { Turned quiet n (got.Line 0 0) line.now tags.old draws.old bytes.old desk.old.out tags.new
+        draws.new bytes.new desk.new.out }
 {
-    let action = action_of(line, draws, bytes);
-    match action {
-        Action::Nothing => put_nothing(out, at),
-        Action::Play(number, len) => {
-            play_event(
-                quiet,
-                n,
-                number,
-                &bytes[0..len],
-                tags,
-                draws,
-                old,
-                answer,
-                meaning,
-                out,
-                at,
-            )
+    match action_of(line, draws, bytes) {
+        Ok(Action::Nothing) => {}
+        Ok(Action::Play(number, len)) => {
+            play_event(quiet, n, number, &bytes[..len], tags, draws, desk);
         }
-        Action::Random => {
+        Ok(Action::Random) => {
             draw(rt, draws);
-            put_draws(out, at, n, draws)
+            put_draws(&mut desk.out, n, draws);
         }
-        Action::Wrong(trouble) => put_wrong(out, at, n, trouble),
-    }
-}
-
-// One answer of `next`: line n is played, or is too long. What is said of it is laid into out, from a place on.
-pub fn turn(
-    rt: &HostRuntime,
-    quiet: bool,
-    reached: Reached,
-    line: &[u8],
-    n: u64,
-    tags: &mut [u8],
-    draws: &mut [u8],
-    bytes: &mut [u8],
-    old: &mut [u8],
-    answer: &mut [u8],
-    meaning: &mut [u8],
-    out: &mut [u8],
-    at: usize,
-) -> usize
-    requires { RackFine tags.old × Room old.old answer.old meaning.old }
-    ensures { Turned quiet n reached line.now tags.old draws.old bytes.old at out.old
-        tags.new draws.new bytes.new out.new result }
-{
-    match reached {
-        Reached::Line => play_line(
-            rt, quiet, line, n, tags, draws, bytes, old, answer, meaning, out, at,
-        ),
-        Reached::Long => put_long(out, at, n),
-        Reached::End => put_nothing(out, at),
+        Err(trouble) => put_wrong(&mut desk.out, n, trouble),
     }
 }

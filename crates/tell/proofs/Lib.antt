@@ -1,10 +1,7 @@
--- The laws of what is told.
-pub mod Arms
-pub mod CommandWays
-pub mod Front
-pub mod MeaningWays
-pub mod SeveralWays
-pub mod LineWays
+-- The laws of what is told, and of the command that an event asks.
+mod Front
+pub mod BlockPlaces
+pub mod LineWidth
 pub mod CommandAsked
 pub mod CommandRead
-pub mod Samples
+mod Samples

@@ -17,35 +17,31 @@ const DATA: usize = 4;
 fn has_option(task: Task, option: bool) -> bool
     ensures { result ≡ option && (row_of task).option }
 {
-    if option {
-        let row = row_of(task);
-        return row.option;
-    }
-    false
+    option && row_of(task).option
 }
 
 // Parameters of a command that has a request: where blocks over 255 are asked for, the first alone.
+#[tactic(auto, unfolding(crate::specs::Commands::within))]
 fn keep_within(p: Params) -> Params
     ensures { result ≡ within p }
 {
     if p.first as u32 + p.second as u32 <= 255 {
-        return p;
-    }
-    Params {
-        first: p.first,
-        second: 0,
+        p
+    } else {
+        Params {
+            first: p.first,
+            second: 0,
+        }
     }
 }
 
+#[tactic(auto, unfolding(crate::specs::Commands::label_command))]
 fn label_command(call: Call) -> Command
     ensures { result ≡ label_command call }
 {
     match call {
-        Call::Ignored => Command::Other(0, 0),
-        Call::Off => Command::Other(0, 0),
-        Call::On => Command::Other(0, 0),
+        Call::Ignored | Call::Off | Call::On | Call::Nobody => Command::Other(0, 0),
         Call::EndOfFrame => Command::Inventory(Target::Everyone, false, Family::Any, true, 0, 0),
-        Call::Nobody => Command::Other(0, 0),
         Call::Inventory(family, sixteen, bits, mask) => {
             Command::Inventory(Target::Everyone, false, family, sixteen, bits, mask)
         }
@@ -62,13 +58,12 @@ fn label_command(call: Call) -> Command
     }
 }
 
+#[tactic(auto, unfolding(crate::specs::Commands::chip_command))]
 fn chip_command(order: Order) -> Command
     ensures { result ≡ chip_command order }
 {
     match order {
-        Order::Ignored => Command::Other(0, 0),
-        Order::Off => Command::Other(0, 0),
-        Order::On => Command::Other(0, 0),
+        Order::Ignored | Order::Off | Order::On => Command::Other(0, 0),
         Order::Initiate => Command::Chip(Target::Everyone, false, ChipTask::Initiate),
         Order::Pcall => Command::Chip(Target::Everyone, false, ChipTask::Pcall),
         Order::Marker(slot) => Command::Chip(Target::Everyone, false, ChipTask::Marker(slot)),
@@ -82,23 +77,21 @@ fn chip_command(order: Order) -> Command
 }
 
 // The command that event `number` asks. Where it is for one UID, that stands in the signal.
+#[tactic(auto, unfolding(crate::specs::Commands::command_of))]
 pub fn command_of(number: u8, signal: Signal) -> Command
     ensures { result ≡ command_of number signal }
 {
     if number == 5 {
-        let order = signal.chip;
-        return chip_command(order);
+        chip_command(signal.chip)
+    } else {
+        label_command(signal.label.call)
     }
-    let request = signal.label;
-    let call = request.call;
-    label_command(call)
 }
 
 // What a frame means as an answer to event `number`.
+#[tactic(auto, unfolding(crate::specs::Commands::reading_for))]
 pub fn reading_of(number: u8, signal: Signal, frame: &[u8]) -> Reading
     ensures { result ≡ reading_for number signal frame.now }
 {
-    let request = signal.label;
-    let uid = request.uid;
-    read_answer(command_of(number, signal), uid, DATA, frame)
+    read_answer(command_of(number, signal), signal.label.uid, DATA, frame)
 }

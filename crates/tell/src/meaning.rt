@@ -1,18 +1,16 @@
 // What an answer means, in words.
 ghost use Rattle.std.specs.Prelude.{◌≡◌, length};
 ghost use Rattle.frame.specs.Number.{part};
-ghost use Rattle.print.specs.Puts.{Puts};
+ghost use Rattle.print.specs.Line.{laid};
 ghost use Rattle.answer.specs.Answer.{Inside};
 ghost use Rattle.tell.specs.Meanings.{writes_block, first_of, denied_words, error_words, error_text, shown_text, lock_text, lock_block_text, found_text};
 ghost use Rattle.tell.specs.Meanings.{sizes_text, info_text, word_text, meant_text, meaning_text, answer_text};
 
 use crate::command::{command_of, reading_of};
-use crate::several::{put_locked_blocks, put_locks, put_plain_blocks};
+use crate::several::{Blocks, put_locked_blocks, put_locks, put_plain_blocks};
 use answer::reading::{Meaning, Reading};
-use print::hex::put_uid;
-use print::named::{put_word_byte, put_word_number};
-use print::put::{put_decimal, put_text};
-use print::quote::{is_printable, put_quoted};
+use print::line::Line;
+use print::quote::is_printable;
 use reader::command::Command;
 use request::signal::Signal;
 use request::table::row_of;
@@ -21,218 +19,213 @@ use request::table::row_of;
 pub fn part_of(s: &[u8], at: usize, n: usize) -> &[u8]
     ensures { result.now ≡ part at n s.now }
 {
-    if s.len() <= at {
-        return &s[0..0];
-    }
-    let end = s.len();
-    if end - at < n {
-        return &s[at..end];
-    }
-    let stop = at + n;
-    &s[at..stop]
+    let rest = &s[at.min(s.len())..];
+    &rest[..n.min(rest.len())]
 }
 
 // Whether a command writes a block.
+#[tactic(auto, unfolding(crate::specs::Meanings::writes_block))]
 fn writes_block(command: Command) -> bool
     ensures { result ≡ writes_block command }
 {
-    match command {
-        Command::Inventory(_, _, _, _, _, _) => false,
-        Command::Label(_, _, task, _) => {
-            let row = row_of(task);
-            row.block
-        }
-        Command::Chip(_, _, _) => false,
-        Command::Other(_, _) => false,
-    }
+    matches!(command, Command::Label(_, _, task, _) if row_of(task).block)
 }
 
 // The block that a command for labels asks for first.
+#[tactic(auto, unfolding(crate::specs::Meanings::first_of))]
 fn first_of(command: Command) -> u8
     ensures { result ≡ first_of command }
 {
     match command {
-        Command::Inventory(_, _, _, _, _, _) => 0,
         Command::Label(_, _, _, p) => p.first,
-        Command::Chip(_, _, _) => 0,
-        Command::Other(_, _) => 0,
+        _ => 0,
     }
 }
 
 // Error 12: of a block that is written, or of anything else.
-fn put_denied(out: &mut [u8], at: usize, writes: bool) -> usize
-    ensures { Puts (denied_words writes) at out.old out.new result }
+#[tactic(auto, using(print::proofs::Lines::lines), unfolding(crate::specs::Meanings::denied_words))]
+fn put_denied<const N: usize>(line: &mut Line<N>, writes: bool)
+    ensures { line.new ≡ laid N line.old (denied_words writes) }
 {
     if writes {
-        return put_text(out, at, b": block is locked");
+        line.put(b": block is locked");
+    } else {
+        line.put(b": locked");
     }
-    put_text(out, at, b": locked")
 }
 
 // What an error says.
-fn put_error_words(out: &mut [u8], at: usize, writes: bool, code: u8) -> usize
-    ensures { Puts (error_words writes code) at out.old out.new result }
+#[tactic(auto, using(print::proofs::Lines::lines), unfolding(crate::specs::Meanings::error_words))]
+fn put_error_words<const N: usize>(line: &mut Line<N>, writes: bool, code: u8)
+    ensures { line.new ≡ laid N line.old (error_words writes code) }
 {
-    if code == 0x01 {
-        return put_text(out, at, b": no such command");
+    match code {
+        0x01 => line.put(b": no such command"),
+        0x02 => line.put(b": wrong length"),
+        0x03 => line.put(b": Option not allowed"),
+        0x10 => line.put(b": no such block"),
+        0x11 => line.put(b": already locked"),
+        0x12 => put_denied(line, writes),
+        _ => {}
     }
-    if code == 0x02 {
-        return put_text(out, at, b": wrong length");
-    }
-    if code == 0x03 {
-        return put_text(out, at, b": Option not allowed");
-    }
-    if code == 0x10 {
-        return put_text(out, at, b": no such block");
-    }
-    if code == 0x11 {
-        return put_text(out, at, b": already locked");
-    }
-    if code == 0x12 {
-        return put_denied(out, at, writes);
-    }
-    put_text(out, at, b"")
 }
 
-fn put_error(out: &mut [u8], at: usize, writes: bool, code: u8) -> usize
-    ensures { Puts (error_text writes code) at out.old out.new result }
+#[tactic(auto, using(print::proofs::Lines::lines), unfolding(crate::specs::Meanings::error_text))]
+fn put_error<const N: usize>(line: &mut Line<N>, writes: bool, code: u8)
+    ensures { line.new ≡ laid N line.old (error_text writes code) }
 {
-    let named = put_word_byte(out, at, b"error ", code);
-    put_error_words(out, named, writes, code)
+    line.word_byte(b"error ", code);
+    put_error_words(line, writes, code);
 }
 
 // A lead and bytes as text, where every byte shows.
-fn put_shown(out: &mut [u8], at: usize, lead: &[u8], s: &[u8]) -> usize
-    ensures { Puts (shown_text lead.now s.now) at out.old out.new result }
+#[tactic(auto, using(print::proofs::Lines::lines), unfolding(crate::specs::Meanings::shown_text))]
+fn put_shown<const N: usize>(line: &mut Line<N>, lead: &[u8], s: &[u8])
+    ensures { line.new ≡ laid N line.old (shown_text lead.now s.now) }
 {
     if is_printable(s) {
-        let p = put_text(out, at, lead);
-        return put_quoted(out, p, s);
+        line.put(lead);
+        line.quoted(s);
     }
-    put_text(out, at, b"")
 }
 
-fn put_lock(out: &mut [u8], at: usize, lock: u8) -> usize
-    ensures { Puts (lock_text lock) at out.old out.new result }
+#[tactic(auto, using(print::proofs::Lines::lines), unfolding(crate::specs::Meanings::lock_text))]
+fn put_lock<const N: usize>(line: &mut Line<N>, lock: u8)
+    ensures { line.new ≡ laid N line.old (lock_text lock) }
 {
     if lock == 0 {
-        return put_text(out, at, b"not locked");
+        line.put(b"not locked");
+    } else {
+        line.put(b"locked");
     }
-    put_text(out, at, b"locked")
 }
 
-fn put_found(out: &mut [u8], at: usize, uid: [u8; 8], dsfid: u8) -> usize
-    ensures { Puts (found_text uid dsfid) at out.old out.new result }
+#[tactic(auto, using(print::proofs::Lines::lines), unfolding(crate::specs::Meanings::found_text))]
+fn put_found<const N: usize>(line: &mut Line<N>, uid: [u8; 8], dsfid: u8)
+    ensures { line.new ≡ laid N line.old (found_text uid dsfid) }
 {
-    let p = put_uid(out, at, uid);
-    put_word_byte(out, p, b", DSFID ", dsfid)
+    line.uid(uid);
+    line.word_byte(b", DSFID ", dsfid);
 }
 
 // How many blocks of how many bytes; both are given less 1.
-fn put_sizes(out: &mut [u8], at: usize, blocks: u8, size: u8) -> usize
-    ensures { Puts (sizes_text blocks size) at out.old out.new result }
+#[tactic(auto, using(print::proofs::Lines::lines), unfolding(crate::specs::Meanings::sizes_text))]
+fn put_sizes<const N: usize>(line: &mut Line<N>, blocks: u8, size: u8)
+    ensures { line.new ≡ laid N line.old (sizes_text blocks size) }
 {
-    let p = put_word_number(out, at, b", ", blocks as u64 + 1);
-    put_word_number(out, p, b" blocks of ", size as u64 + 1)
+    line.word_number(b", ", blocks as u64 + 1);
+    line.word_number(b" blocks of ", size as u64 + 1);
 }
 
-fn put_info(
-    out: &mut [u8],
-    at: usize,
+#[tactic(auto, using(print::proofs::Lines::lines), unfolding(crate::specs::Meanings::info_text))]
+fn put_info<const N: usize>(
+    line: &mut Line<N>,
     uid: [u8; 8],
     dsfid: u8,
     afi: u8,
     blocks: u8,
     size: u8,
     ic: u8,
-) -> usize
-    ensures { Puts (info_text uid dsfid afi blocks size ic) at out.old out.new result }
+)
+    ensures { line.new ≡ laid N line.old (info_text uid dsfid afi blocks size ic) }
 {
-    let found = put_found(out, at, uid, dsfid);
-    let told = put_word_byte(out, found, b", AFI ", afi);
-    let p = put_sizes(out, told, blocks, size);
-    put_word_byte(out, p, b", IC ", ic)
+    put_found(line, uid, dsfid);
+    line.word_byte(b", AFI ", afi);
+    put_sizes(line, blocks, size);
+    line.word_byte(b", IC ", ic);
 }
 
 // A chip's block: as a number, and as text where its bytes show.
-fn put_chip_word(out: &mut [u8], at: usize, w: u32) -> usize
-    ensures { Puts (word_text w) at out.old out.new result }
+#[tactic(auto, using(print::proofs::Lines::lines), unfolding(crate::specs::Meanings::word_text))]
+fn put_chip_word<const N: usize>(line: &mut Line<N>, w: u32)
+    ensures { line.new ≡ laid N line.old (word_text w) }
 {
-    let bytes = [
-        (w % 256) as u8,
-        (w / 256 % 256) as u8,
-        (w / 256 / 256 % 256) as u8,
-        (w / 256 / 256 / 256 % 256) as u8,
-    ];
-    let p = put_decimal(out, at, w as u64);
-    put_shown(out, p, b", ", &bytes)
+    line.decimal(w as u64);
+    put_shown(line, b", ", &w.to_le_bytes());
 }
 
-fn put_lock_block(out: &mut [u8], at: usize, lock: u8, s: &[u8]) -> usize
-    ensures { Puts (lock_block_text lock s.now) at out.old out.new result }
+#[tactic(auto, using(print::proofs::Lines::lines), unfolding(crate::specs::Meanings::lock_block_text))]
+fn put_lock_block<const N: usize>(line: &mut Line<N>, lock: u8, s: &[u8])
+    ensures { line.new ≡ laid N line.old (lock_block_text lock s.now) }
 {
-    let p = put_lock(out, at, lock);
-    put_shown(out, p, b", ", s)
+    put_lock(line, lock);
+    put_shown(line, b", ", s);
 }
 
 // A meaning; `first` is the block that was asked for first.
-fn put_meant(
-    out: &mut [u8],
-    at: usize,
+#[tactic(auto, using(print::proofs::Lines::lines), unfolding(crate::specs::Meanings::meant_text))]
+fn put_meant<const N: usize>(
+    line: &mut Line<N>,
     writes: bool,
     first: u8,
     meaning: Meaning,
     uid: [u8; 8],
     frame: &[u8],
-) -> usize
+)
     requires { Inside meaning (length frame.now) }
-    ensures { Puts (meant_text writes first meaning uid frame.now) at out.old out.new result }
+    ensures { line.new ≡ laid N line.old (meant_text writes first meaning uid frame.now) }
 {
     match meaning {
-        Meaning::Refused(_) => put_text(out, at, b"not an answer to this"),
-        Meaning::Error(code) => put_error(out, at, writes, code),
-        Meaning::Done => put_text(out, at, b"done"),
-        Meaning::Found(dsfid) => put_found(out, at, uid, dsfid),
-        Meaning::Block(place, n) => put_shown(out, at, b"", part_of(frame, place, n)),
+        Meaning::Refused(_) => line.put(b"not an answer to this"),
+        Meaning::Error(code) => put_error(line, writes, code),
+        Meaning::Done => line.put(b"done"),
+        Meaning::Found(dsfid) => put_found(line, uid, dsfid),
+        Meaning::Block(place, n) => put_shown(line, b"", part_of(frame, place, n)),
         Meaning::LockAndBlock(lock, place, n) => {
-            put_lock_block(out, at, lock, part_of(frame, place, n))
+            put_lock_block(line, lock, part_of(frame, place, n))
         }
         Meaning::Info(dsfid, afi, blocks, size, ic) => {
-            put_info(out, at, uid, dsfid, afi, blocks, size, ic)
+            put_info(line, uid, dsfid, afi, blocks, size, ic)
         }
-        Meaning::Id(id) => put_word_byte(out, at, b"Chip_ID ", id),
-        Meaning::Word(w) => put_chip_word(out, at, w),
-        Meaning::Uid => put_uid(out, at, uid),
-        Meaning::Blocks(place, n, count) => put_plain_blocks(out, at, frame, place, n, count),
-        Meaning::LocksAndBlocks(place, n, count) => {
-            put_locked_blocks(out, at, frame, first, place, n, count)
+        Meaning::Id(id) => line.word_byte(b"Chip_ID ", id),
+        Meaning::Word(w) => put_chip_word(line, w),
+        Meaning::Uid => line.uid(uid),
+        Meaning::Blocks(place, long, count) => {
+            let blocks = Blocks {
+                frame,
+                place,
+                long,
+                count,
+            };
+            put_plain_blocks(line, &blocks)
         }
-        Meaning::Locks(place, count) => put_locks(out, at, frame, first, place, count),
+        Meaning::LocksAndBlocks(place, long, count) => {
+            let blocks = Blocks {
+                frame,
+                place,
+                long,
+                count,
+            };
+            put_locked_blocks(line, &blocks, first)
+        }
+        Meaning::Locks(place, count) => {
+            let locks = Blocks {
+                frame,
+                place,
+                long: 0,
+                count,
+            };
+            put_locks(line, &locks, first)
+        }
     }
 }
 
 // What the reading of a frame as an answer to a command means.
-fn put_meaning(out: &mut [u8], at: usize, command: Command, reading: Reading, frame: &[u8]) -> usize
+#[tactic(auto, using(print::proofs::Lines::lines), unfolding(crate::specs::Meanings::meaning_text))]
+fn put_meaning<const N: usize>(line: &mut Line<N>, command: Command, reading: Reading, frame: &[u8])
     requires { Inside reading.meaning (length frame.now) }
-    ensures { Puts (meaning_text command reading frame.now) at out.old out.new result }
+    ensures { line.new ≡ laid N line.old (meaning_text command reading frame.now) }
 {
-    let meaning = reading.meaning;
-    let uid = reading.uid;
-    put_meant(
-        out,
-        at,
-        writes_block(command),
-        first_of(command),
-        meaning,
-        uid,
-        frame,
-    )
+    let writes = writes_block(command);
+    let first = first_of(command);
+    put_meant(line, writes, first, reading.meaning, reading.uid, frame);
 }
 
 // What a frame means as an answer to event `number`.
-pub fn put_answer(out: &mut [u8], at: usize, number: u8, signal: Signal, frame: &[u8]) -> usize
-    ensures { Puts (answer_text number signal frame.now) at out.old out.new result }
+#[tactic(auto, using(print::proofs::Lines::lines), unfolding(crate::specs::Meanings::answer_text))]
+pub fn put_answer<const N: usize>(line: &mut Line<N>, number: u8, signal: Signal, frame: &[u8])
+    ensures { line.new ≡ laid N line.old (answer_text number signal frame.now) }
 {
     let reading = reading_of(number, signal, frame);
-    put_meaning(out, at, command_of(number, signal), reading, frame)
+    put_meaning(line, command_of(number, signal), reading, frame);
 }

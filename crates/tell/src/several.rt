@@ -1,212 +1,168 @@
-// Several blocks of a frame, in words. Their places lie within the frame, so no sum of them grows too large.
-ghost use Rattle.std.specs.Prelude.{◌≡◌, ◌+◌, ◌*◌, ◌≤◌, length};
-ghost use Rattle.print.specs.Puts.{Puts};
+// Several blocks of a frame, in words.
+ghost use Rattle.std.specs.Prelude.{◌≡◌, ◌+◌, ◌*◌, ◌<◌, ◌≤◌, length};
+ghost use Rattle.print.specs.Line.{laid};
 ghost use Rattle.print.specs.Quote.{printable};
-ghost use Rattle.tell.specs.Meanings.{blocks_text, pieces_of, pieces_text, unlocked, locked_one, locked_numbers, locked_text};
+ghost use Rattle.tell.specs.Meanings.{blocks_text, piece_at, pieces_of, pieces_text, lock_at, unlocked, locked_one, locked_numbers, locked_text};
 ghost use Rattle.tell.specs.Meanings.{plain_blocks_text, locked_blocks_text, locks_text};
 
-use crate::meaning::part_of;
-use frame::number::byte_at;
-use print::named::put_word_number;
-use print::put::{inside, put_decimal, put_nothing, put_text};
+use print::line::Line;
 use print::quote::is_printable;
 
-// So many blocks of so many bytes.
-fn put_blocks(out: &mut [u8], at: usize, count: usize, long: usize) -> usize
-    ensures { Puts (blocks_text count long) at out.old out.new result }
-{
-    let counted = put_decimal(out, at, count as u64);
-    put_word_number(out, counted, b" blocks of ", long as u64)
+// Blocks of a frame from a place on: of each `long` bytes, behind GAP bytes more. They lie within the frame, so no sum of their places grows too large.
+#[derive(Clone, Copy)]
+pub struct Blocks<'a, const GAP: usize> {
+    pub frame: &'a [u8],
+    pub place: usize,
+    pub long: usize,
+    pub count: usize,
+    ghost inside: { place + count * (GAP + long) ≤ length frame.now },
 }
 
-// ---- their bytes; before each block stand `gap` bytes more
+impl<'a, const GAP: usize> Blocks<'a, GAP> {
+    // The bytes of block i.
+    #[tactic(auto, using(crate::proofs::BlockPlaces::block_room))]
+    fn piece(&self, i: usize) -> &'a [u8]
+        requires { i < self.now.count }
+        ensures { result.now ≡ piece_at self.now.place GAP self.now.long self.now.frame.now i }
+    {
+        let from = self.place + i * (GAP + self.long) + GAP;
+        &self.frame[from..from + self.long]
+    }
+}
+
+impl<'a> Blocks<'a, 1> {
+    // The lock byte of block i.
+    #[tactic(auto, using(crate::proofs::BlockPlaces::block_room))]
+    fn lock(&self, i: usize) -> u8
+        requires { i < self.now.count }
+        ensures { result ≡ lock_at self.now.place self.now.long self.now.frame.now i }
+    {
+        self.frame[self.place + i * (1 + self.long)]
+    }
+}
+
+// So many blocks of so many bytes.
+#[tactic(auto, using(print::proofs::Lines::lines), unfolding(crate::specs::Meanings::blocks_text))]
+fn put_blocks<const N: usize>(line: &mut Line<N>, count: usize, long: usize)
+    ensures { line.new ≡ laid N line.old (blocks_text count long) }
+{
+    line.decimal(count as u64);
+    line.word_number(b" blocks of ", long as u64);
+}
+
+// ---- their bytes
 
 // Whether every byte of every block shows.
-fn are_printable(f: &[u8], place: usize, gap: usize, long: usize, count: usize) -> bool
-    requires { place + count * (gap + long) ≤ length f.now }
-    ensures { result ≡ printable (pieces_of place gap long count f.now) }
+#[tactic(auto, using(crate::proofs::BlockPlaces::passing), unfolding(crate::specs::Meanings::pieces_of))]
+fn are_printable<const GAP: usize>(blocks: &Blocks<'_, GAP>) -> bool
+    ensures { result ≡ printable (pieces_of blocks.now.place GAP blocks.now.long blocks.now.count blocks.now.frame.now) }
 {
-    let mut at = place;
-    let mut i = 0;
-    while i < count {
-        at += gap;
-        if !is_printable(part_of(f, at, long)) {
+    for i in 0..blocks.count {
+        if !is_printable(blocks.piece(i)) {
             return false;
         }
-        at += long;
-        i += 1;
     }
     true
 }
 
 // The bytes, one block behind the other.
-fn put_pieces(
-    out: &mut [u8],
-    at: usize,
-    f: &[u8],
-    place: usize,
-    gap: usize,
-    long: usize,
-    count: usize,
-) -> usize
-    requires { place + count * (gap + long) ≤ length f.now }
-    ensures { Puts (pieces_of place gap long count f.now) at out.old out.new result }
+#[tactic(auto, using(print::proofs::Lines::gathered), unfolding(crate::specs::Meanings::pieces_of))]
+fn put_pieces<const GAP: usize, const N: usize>(line: &mut Line<N>, blocks: &Blocks<'_, GAP>)
+    ensures { line.new ≡ laid N line.old (pieces_of blocks.now.place GAP blocks.now.long blocks.now.count blocks.now.frame.now) }
 {
-    let mut p = inside(out.len(), at);
-    let mut from = place;
-    let mut i = 0;
-    while i < count {
-        from += gap;
-        p = put_text(out, p, part_of(f, from, long));
-        from += long;
-        i += 1;
+    for i in 0..blocks.count {
+        line.put(blocks.piece(i));
     }
-    p
 }
 
 // The bytes as text, where every byte shows.
-fn put_shown_pieces(
-    out: &mut [u8],
-    at: usize,
-    f: &[u8],
-    place: usize,
-    gap: usize,
-    long: usize,
-    count: usize,
-) -> usize
-    requires { place + count * (gap + long) ≤ length f.now }
-    ensures { Puts (pieces_text place gap long count f.now) at out.old out.new result }
+#[tactic(auto, using(print::proofs::Lines::lines), unfolding(crate::specs::Meanings::pieces_text, crate::specs::Meanings::shown_text, print::specs::Quote::quoted_text))]
+fn put_shown_pieces<const GAP: usize, const N: usize>(line: &mut Line<N>, blocks: &Blocks<'_, GAP>)
+    ensures { line.new ≡ laid N line.old (pieces_text blocks.now.place GAP blocks.now.long blocks.now.count blocks.now.frame.now) }
 {
-    if are_printable(f, place, gap, long, count) {
-        let opened = put_text(out, at, b", \"");
-        let said = put_pieces(out, opened, f, place, gap, long, count);
-        return put_text(out, said, b"\"");
+    if are_printable(blocks) {
+        line.put(b", \"");
+        put_pieces(line, blocks);
+        line.put(b"\"");
     }
-    put_nothing(out, at)
 }
 
-// ---- their lock bytes; behind each stand `long` bytes more
+// ---- their lock bytes
 
 // Whether no block is locked.
-fn are_unlocked(f: &[u8], place: usize, long: usize, count: usize) -> bool
-    requires { place + count * (1 + long) ≤ length f.now }
-    ensures { result ≡ unlocked place long count f.now }
+#[tactic(auto, using(crate::proofs::BlockPlaces::passing), unfolding(crate::specs::Meanings::unlocked))]
+fn are_unlocked(blocks: &Blocks<'_, 1>) -> bool
+    ensures { result ≡ unlocked blocks.now.place blocks.now.long blocks.now.count blocks.now.frame.now }
 {
-    let mut at = place;
-    let mut i = 0;
-    while i < count {
-        if byte_at(f, at) != 0 {
+    for i in 0..blocks.count {
+        if blocks.lock(i) != 0 {
             return false;
         }
-        at += 1 + long;
-        i += 1;
     }
     true
 }
 
 // The number of a block that is locked, or nothing.
-fn put_number(out: &mut [u8], at: usize, lock: u8, number: u64) -> usize
-    ensures { Puts (locked_one lock number) at out.old out.new result }
+#[tactic(auto, using(print::proofs::Lines::lines), unfolding(crate::specs::Meanings::locked_one))]
+fn put_number<const N: usize>(line: &mut Line<N>, lock: u8, number: u64)
+    ensures { line.new ≡ laid N line.old (locked_one lock number) }
 {
-    if lock == 0 {
-        return put_nothing(out, at);
+    if lock != 0 {
+        line.word_number(b" ", number);
     }
-    put_word_number(out, at, b" ", number)
 }
 
 // The numbers of the blocks that are locked; the first has number `first`.
-fn put_numbers(
-    out: &mut [u8],
-    at: usize,
-    f: &[u8],
-    first: u8,
-    place: usize,
-    long: usize,
-    count: usize,
-) -> usize
-    requires { place + count * (1 + long) ≤ length f.now }
-    ensures { Puts (locked_numbers first place long count f.now) at out.old out.new result }
+#[tactic(auto, using(print::proofs::Lines::gathered), unfolding(crate::specs::Meanings::locked_numbers))]
+fn put_numbers<const N: usize>(line: &mut Line<N>, blocks: &Blocks<'_, 1>, first: u8)
+    ensures { line.new ≡ laid N line.old (locked_numbers first blocks.now.place blocks.now.long blocks.now.count blocks.now.frame.now) }
 {
-    let mut p = inside(out.len(), at);
-    let mut from = place;
-    let mut i = 0;
-    while i < count {
-        p = put_number(out, p, byte_at(f, from), first as u64 + i as u64);
-        from += 1 + long;
-        i += 1;
+    for i in 0..blocks.count {
+        put_number(line, blocks.lock(i), first as u64 + i as u64);
     }
-    p
 }
 
 // Which blocks are locked.
-fn put_locked(
-    out: &mut [u8],
-    at: usize,
-    f: &[u8],
-    first: u8,
-    place: usize,
-    long: usize,
-    count: usize,
-) -> usize
-    requires { place + count * (1 + long) ≤ length f.now }
-    ensures { Puts (locked_text first place long count f.now) at out.old out.new result }
+#[tactic(auto, using(print::proofs::Lines::lines), unfolding(crate::specs::Meanings::locked_text))]
+fn put_locked<const N: usize>(line: &mut Line<N>, blocks: &Blocks<'_, 1>, first: u8)
+    ensures { line.new ≡ laid N line.old (locked_text first blocks.now.place blocks.now.long blocks.now.count blocks.now.frame.now) }
 {
-    if are_unlocked(f, place, long, count) {
-        return put_text(out, at, b", none locked");
+    if are_unlocked(blocks) {
+        line.put(b", none locked");
+    } else {
+        line.put(b", locked");
+        put_numbers(line, blocks, first);
     }
-    let named = put_text(out, at, b", locked");
-    put_numbers(out, named, f, first, place, long, count)
 }
 
 // ---- the answers
 
 // Blocks one behind the other.
-pub fn put_plain_blocks(
-    out: &mut [u8],
-    at: usize,
-    f: &[u8],
-    place: usize,
-    long: usize,
-    count: usize,
-) -> usize
-    requires { place + count * long ≤ length f.now }
-    ensures { Puts (plain_blocks_text place long count f.now) at out.old out.new result }
+#[tactic(auto, using(print::proofs::Lines::lines), unfolding(crate::specs::Meanings::plain_blocks_text))]
+pub fn put_plain_blocks<const N: usize>(line: &mut Line<N>, blocks: &Blocks<'_, 0>)
+    ensures { line.new ≡ laid N line.old (plain_blocks_text blocks.now.place blocks.now.long blocks.now.count blocks.now.frame.now) }
 {
-    let counted = put_blocks(out, at, count, long);
-    put_shown_pieces(out, counted, f, place, 0, long, count)
+    put_blocks(line, blocks.count, blocks.long);
+    put_shown_pieces(line, blocks);
 }
 
-// Blocks with a lock byte before each.
-pub fn put_locked_blocks(
-    out: &mut [u8],
-    at: usize,
-    f: &[u8],
-    first: u8,
-    place: usize,
-    long: usize,
-    count: usize,
-) -> usize
-    requires { place + count * (1 + long) ≤ length f.now }
-    ensures { Puts (locked_blocks_text first place long count f.now) at out.old out.new result }
+// Blocks with a lock byte before each; the first has number `first`.
+#[tactic(auto, using(print::proofs::Lines::lines), unfolding(crate::specs::Meanings::locked_blocks_text))]
+pub fn put_locked_blocks<const N: usize>(line: &mut Line<N>, blocks: &Blocks<'_, 1>, first: u8)
+    ensures { line.new ≡ laid N line.old (locked_blocks_text first blocks.now.place blocks.now.long blocks.now.count blocks.now.frame.now) }
 {
-    let counted = put_blocks(out, at, count, long);
-    let locked = put_locked(out, counted, f, first, place, long, count);
-    put_shown_pieces(out, locked, f, place, 1, long, count)
+    put_blocks(line, blocks.count, blocks.long);
+    put_locked(line, blocks, first);
+    put_shown_pieces(line, blocks);
 }
 
-// Lock bytes alone.
-pub fn put_locks(
-    out: &mut [u8],
-    at: usize,
-    f: &[u8],
-    first: u8,
-    place: usize,
-    count: usize,
-) -> usize
-    requires { place + count ≤ length f.now }
-    ensures { Puts (locks_text first place count f.now) at out.old out.new result }
+// Lock bytes alone: blocks of which no byte is told.
+#[tactic(auto, using(print::proofs::Lines::lines), unfolding(crate::specs::Meanings::locks_text))]
+pub fn put_locks<const N: usize>(line: &mut Line<N>, locks: &Blocks<'_, 1>, first: u8)
+    requires { locks.now.long ≡ 0 }
+    ensures { line.new ≡ laid N line.old (locks_text first locks.now.place locks.now.count locks.now.frame.now) }
 {
-    let counted = put_decimal(out, at, count as u64);
-    let named = put_text(out, counted, b" blocks");
-    put_locked(out, named, f, first, place, 0, count)
+    line.decimal(locks.count as u64);
+    line.put(b" blocks");
+    put_locked(line, locks, first);
 }

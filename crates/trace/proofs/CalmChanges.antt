@@ -13,7 +13,9 @@ use Rattle.frame.specs.Number.{part}
 use Rattle.frame.proofs.Bools.{if_both, if_same}
 use Rattle.request.specs.Signal.{signal_of}
 use Rattle.chip_body.proofs.Floor.{ignores_3_4}
-use Rattle.rack.specs.File.{Kind, Label, Chip, Other, count_of, kind_at, length_at, offset_at, start_of, body_at}
+use Rattle.rack.specs.declared.tag.Kind.{Kind}
+use Rattle.rack.specs.declared.tag.Kind.TheVariants.{Label, Chip, Other}
+use Rattle.rack.specs.File.{count_of, kind_at, length_at, offset_at, start_of, body_at}
 use Rattle.rack.specs.Facts.{RackFine, body_of}
 use Rattle.rack.specs.Tag.{Event, aired, next_body}
 use Rattle.event.specs.Event.{Outcome, next_rack, refusal_of, event_of}

@@ -1,7 +1,5 @@
 -- The laws of questions to a rack and of what is told of it.
 pub mod QuestionTags
-pub mod ReasonWays
-pub mod WhyWords
 pub mod ChangeLaid
 pub mod OwnersTold
 pub mod CalmLabels

@@ -1,45 +1,29 @@
--- A question to a rack, tag by tag; and tag i of a well-formed rack is there: its entry, its body, and a body of a length that its kind can have.
--- Assumes nothing.
+-- A question to a rack, tag by tag. Assumes nothing.
 use mathlib.Core.Path.{◌≡◌, refl, ap, ap₂, sym, subst, ◌∙◌}
 use mathlib.Core.Logic.{⊎_elim}
-use mathlib.Core.Bool.{Bool, true, false}
+use mathlib.Core.Bool.{Bool, true, false, ◌||◌}
 use mathlib.Core.List.{List}
 use Prim.Native.Nat.{ℕ, zero, suc, ◌+◌, ◌-◌, ◌≤◌, ◌<◌}
 use native.Mathlib.Numerals.{add-one}
 use native.Mathlib.Omega.{arith}
 use lib.Dec.{eqb}
-use lib.ListN.{length}
-use Rattle.frame.specs.Number.{part}
 use Rattle.frame.proofs.Bools.{or_right, below_or_not}
-use Rattle.frame.proofs.Stores.{length_part}
-use Rattle.rack.specs.File.{Kind, count_of, entry_at, kind_at, length_at, offset_at, length_fits}
-use Rattle.rack.specs.Facts.{RackFine, TagFine, body_of}
-use Rattle.rack.proofs.FileRebuilt.{tag_fine}
+use Rattle.rack.specs.declared.tag.Kind.{Kind}
+use Rattle.rack.specs.File.{count_of, kind_at}
+use Rattle.rack.specs.Facts.{body_of}
 use Rattle.trace.specs.declared.question.Ask.{Ask}
 use Rattle.trace.specs.declared.question.Ask.TheVariants as a
 use Rattle.trace.specs.Question.{tag_fits, some, any_of, lowest_from}
 
-module _ (r : List ℕ) (ok : RackFine r) {n i : ℕ} (e : n ≡ count_of r) (h : i < n) where
-  pub there : i < count_of r
-  there = subst (λ (x : ℕ). i < x) e h
-
-  pub entry_there : (i < 64) × (entry_at i + 8 ≤ length r)
-  entry_there = (omega (arith, there, ok.head.few), (ok.entry i there).in_file)
-
-  pub body_there : offset_at r i + length_at r i ≤ length r
-  body_there = subst (λ (at : ℕ). at + length_at r i ≤ length r) (sym (ok.entry i there).placed) (ok.body i there).in_file
-
-  pub body_fits : (b : List ℕ) → b ≡ body_of r i → length_fits (kind_at r i) (length b) ≡ true
-  body_fits b q =
-      let l : length b ≡ length_at r i = ap length q ∙ length_part (offset_at r i) (length_at r i) r body_there in
-      subst (λ (x : ℕ). length_fits (kind_at r i) x ≡ true) (sym l) (ok.entry i there).fits
-
-  pub tag_there : (b : List ℕ) → b ≡ body_of r i → TagFine (kind_at r i) b
-  tag_there b q =
-      let t = subst (λ (at : ℕ). TagFine (kind_at r i) (part at (length_at r i) r)) (sym (ok.entry i there).placed) (tag_fine r ok i there) in
-      subst (λ (x : List ℕ). TagFine (kind_at r i) x) (sym q) t
-
 -- ---- any question that goes from 0 on
+
+pub some_none : (p : ℕ → Bool) → some 0 p ≡ false
+unfolding some
+some_none p = refl
+
+pub some_more : (p : ℕ → Bool) (i : ℕ) → some (i + 1) p ≡ (some i p || p i)
+unfolding some
+some_more p i = rw add-one refl
 
 some_next : (p : ℕ → Bool) (i : ℕ) → some i p ≡ false → p i ≡ false → some (i + 1) p ≡ false
 unfolding some

@@ -9,7 +9,9 @@ use Rattle.request.specs.declared.label.Target.{Target}
 use Rattle.request.specs.declared.label.Target.TheVariants.{Everyone, Selected, One}
 use Rattle.request.specs.declared.label.Call.{Call}
 use Rattle.request.specs.declared.label.Call.TheVariants.{Ignored, Off, On, EndOfFrame, Nobody, Inventory, Fault, Do}
-use Rattle.rack.specs.File.{Kind, Label, Chip, Other, count_of, kind_at}
+use Rattle.rack.specs.declared.tag.Kind.{Kind}
+use Rattle.rack.specs.declared.tag.Kind.TheVariants.{Label, Chip, Other}
+use Rattle.rack.specs.File.{count_of, kind_at}
 use Rattle.rack.specs.Facts.{body_of}
 use Rattle.trace.specs.Changes.{tag_line}
 

@@ -1,5 +1,5 @@
 -- The words of one change. A change opens with a comma. Assumes nothing.
-use Rattle.std.specs.Prelude.{Bool, true, false, ◌&&◌, List, [], ◌∷◌, ◌++◌, ℕ, zero, suc, eqb, leb, get_or, set, if◌then◌else◌}
+use Rattle.std.specs.Prelude.{Bool, true, false, ◌&&◌, List, [], ◌∷◌, ◌++◌, ℕ, zero, suc, eqb, get_or, if◌then◌else◌}
 use Rattle.print.specs.Ascii.{ascii}
 use Rattle.print.specs.Decimal.{decimal_text}
 use Rattle.print.specs.Hex.{hex_text, pairs_text}
@@ -50,7 +50,3 @@ lock_change old new n = if rose old new then lock_text n else []
 unfoldable pub coloned : List ℕ → List ℕ
 coloned [] = []
 coloned (c ∷ s) = 58 ∷ s
-
--- where changes stand from a place on up to an end
-unfoldable pub colon_at : ℕ → ℕ → List ℕ → List ℕ
-colon_at at end s = if leb end at then s else set s at 58

@@ -1,7 +1,9 @@
 -- What changed between a rack and the one that an event left: a line for each tag whose told fields are others. Assumes nothing.
 use Rattle.std.specs.Prelude.{List, [], ℕ, eqb, if◌then◌else◌}
 use Rattle.frame.specs.Choose.{gather}
-use Rattle.rack.specs.File.{Kind, Label, Chip, Other, count_of, kind_at}
+use Rattle.rack.specs.declared.tag.Kind.{Kind}
+use Rattle.rack.specs.declared.tag.Kind.TheVariants.{Label, Chip, Other}
+use Rattle.rack.specs.File.{count_of, kind_at}
 use Rattle.rack.specs.Facts.{body_of}
 use Rattle.trace.specs.Labels.{label_line}
 use Rattle.trace.specs.Chips.{chip_line}

@@ -2,7 +2,8 @@
 use Rattle.std.specs.Prelude.{Bool, true, false, not, List, [], ◌∷◌, ◌++◌, ℕ, ◌-◌, ◌/◌, ◌%◌, eqb, ltb, length, get_or, if◌then◌else◌}
 use Rattle.frame.specs.Choose.{gather}
 use Rattle.frame.specs.Number.{part}
-use Rattle.label_body.specs.Body.{blocks_of, size_of, block_at}
+use Rattle.label_body.specs.Body.{blocks_of, size_of, block_at, wanted_of, Sized}
+use Rattle.std.specs.Coded.{Coded-set, coded_ℕ}
 use Rattle.label_body.specs.Locks.{lock_on}
 use Rattle.print.specs.Ascii.{ascii}
 use Rattle.print.specs.Hex.{uid_text}
@@ -61,3 +62,8 @@ told_line a b = ascii "  label " ++ (uid_text (part 0 8 b) ++ (coloned_changes a
 
 unfoldable pub label_line : List ℕ → List ℕ → List ℕ
 label_line a b = if label_told a b then told_line a b else []
+
+-- not for the reader of the paper: that a body has the length that it names is a fact, which has one proof
+pub sized_prop : (b : List ℕ) → IsProp (Sized b)
+unfolding Sized
+sized_prop b = Coded-set coded_ℕ (length b) (wanted_of b)

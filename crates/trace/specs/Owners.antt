@@ -4,7 +4,9 @@ use Rattle.frame.specs.Choose.{gather}
 use Rattle.frame.specs.Number.{part}
 use Rattle.print.specs.Ascii.{ascii}
 use Rattle.print.specs.Hex.{uid_text}
-use Rattle.rack.specs.File.{Kind, Label, Chip, Other, count_of, kind_at}
+use Rattle.rack.specs.declared.tag.Kind.{Kind}
+use Rattle.rack.specs.declared.tag.Kind.TheVariants.{Label, Chip, Other}
+use Rattle.rack.specs.File.{count_of, kind_at}
 use Rattle.rack.specs.Facts.{body_of}
 use Rattle.rack.specs.Tag.{Event, said_by, speaks}
 use Rattle.trace.specs.Change.{when_text}

@@ -1,7 +1,9 @@
 -- Whether a rack has a tag of which something holds. Assumes nothing.
 use Rattle.std.specs.Prelude.{Bool, true, false, not, ◌&&◌, ◌||◌, List, ℕ, zero, suc, eqb, get_or, if◌then◌else◌}
 use Rattle.label_body.specs.Slots.{uid_of, takes_part}
-use Rattle.rack.specs.File.{Kind, Label, Chip, Other, count_of, kind_at}
+use Rattle.rack.specs.declared.tag.Kind.{Kind}
+use Rattle.rack.specs.declared.tag.Kind.TheVariants.{Label, Chip, Other}
+use Rattle.rack.specs.File.{count_of, kind_at}
 use Rattle.rack.specs.Facts.{body_of}
 use Rattle.trace.specs.declared.question.Ask.{Ask}
 use Rattle.trace.specs.declared.question.Ask.TheVariants as a

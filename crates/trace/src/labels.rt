@@ -2,160 +2,153 @@
 ghost use Rattle.std.specs.Prelude.{◌≡◌, ◌+◌, ◌≤◌, length, get_or};
 ghost use Rattle.frame.specs.Number.{part};
 ghost use Rattle.label_body.specs.Body.{Sized};
-ghost use Rattle.print.specs.Puts.{Puts};
+ghost use Rattle.print.specs.Line.{laid};
 ghost use Rattle.trace.specs.Labels.{state_words, state_change, bit_change, label_fields, block_content, block_lock, block_change, block_changes, label_changes};
-ghost use Rattle.trace.specs.Labels.{label_told, coloned_changes, told_line, label_line};
+ghost use Rattle.trace.specs.Labels.{sized_prop, label_told, told_line, label_line};
 
 use crate::change::{
-    is_new, put_byte_change, put_content, put_lock_change, put_when, same_bytes, set_colon,
+    close_line, is_new, open_line, put_byte_change, put_content, put_lock_change, put_when,
+    same_bytes,
 };
 use frame::number::byte_at;
 use frame::uid::uid_at;
 use label_body::body::place;
 use label_body::locks::lock_on;
-use print::hex::put_uid;
-use print::put::{inside, put_text};
+use print::line::Line;
 
-fn put_state(out: &mut [u8], at: usize, s: u8) -> usize
-    ensures { Puts (state_words s) at out.old out.new result }
-{
-    if s == 0 {
-        return put_text(out, at, b", off");
-    }
-    if s == 1 {
-        return put_text(out, at, b", ready");
-    }
-    if s == 2 {
-        return put_text(out, at, b", quiet");
-    }
-    put_text(out, at, b", selected")
+// A label's body before an event, and behind it.
+#[derive(Clone, Copy)]
+struct Label<'a> {
+    before: &'a [u8],
+    after: &'a [u8],
+    ghost sized: { Sized after.now } by { sized_prop after.now },
+    ghost whole: { length after.now ≤ length before.now },
 }
 
-fn put_state_change(out: &mut [u8], at: usize, a: &[u8], b: &[u8]) -> usize
-    ensures { Puts (state_change (get_or a.now 14 0) (get_or b.now 14 0)) at out.old out.new result }
+#[tactic(auto, using(print::proofs::Lines::lines), unfolding(crate::specs::Labels::state_words))]
+fn put_state<const N: usize>(line: &mut Line<N>, s: u8)
+    ensures { line.new ≡ laid N line.old (state_words s) }
+{
+    match s {
+        0 => line.put(b", off"),
+        1 => line.put(b", ready"),
+        2 => line.put(b", quiet"),
+        _ => line.put(b", selected"),
+    }
+}
+
+// A chip's is apart: other place, words and definition, and nothing but the test alike.
+#[tactic(auto, using(print::proofs::Lines::lines), unfolding(crate::specs::Labels::state_change))]
+fn put_state_change<const N: usize>(line: &mut Line<N>, a: &[u8], b: &[u8])
+    ensures { line.new ≡ laid N line.old (state_change (get_or a.now 14 0) (get_or b.now 14 0)) }
 {
     let new = byte_at(b, 14);
-    if byte_at(a, 14) == new {
-        return inside(out.len(), at);
+    if byte_at(a, 14) != new {
+        put_state(line, new);
     }
-    put_state(out, at, new)
 }
 
 // Words, where the bit of byte 10 that is 1 at a weight was not set and is.
-fn put_bit_change(out: &mut [u8], at: usize, s: &[u8], a: &[u8], b: &[u8], weight: u8) -> usize
+#[tactic(auto, using(print::proofs::Lines::lines), unfolding(crate::specs::Labels::bit_change))]
+fn put_bit_change<const N: usize>(line: &mut Line<N>, s: &[u8], a: &[u8], b: &[u8], weight: u8)
     requires { 1 ≤ weight }
-    ensures { Puts (bit_change s.now weight (get_or a.now 10 0) (get_or b.now 10 0)) at out.old
-        out.new result }
+    ensures { line.new ≡ laid N line.old (bit_change s.now weight (get_or a.now 10 0) (get_or b.now 10 0)) }
 {
     let old = byte_at(a, 10) / weight % 2;
     let new = byte_at(b, 10) / weight % 2;
     let told = is_new(old == 1, new == 1);
-    put_when(out, at, told, s)
+    put_when(line, told, s);
 }
 
 // State, AFI, DSFID and their locks.
-fn put_fields(out: &mut [u8], at: usize, a: &[u8], b: &[u8]) -> usize
-    ensures { Puts (label_fields a.now b.now) at out.old out.new result }
+#[tactic(auto, using(print::proofs::Lines::lines), unfolding(crate::specs::Labels::label_fields))]
+fn put_fields<const N: usize>(line: &mut Line<N>, a: &[u8], b: &[u8])
+    ensures { line.new ≡ laid N line.old (label_fields a.now b.now) }
 {
-    let stated = put_state_change(out, at, a, b);
-    let family = put_byte_change(out, stated, b", AFI ", a, b, 9);
-    let format = put_byte_change(out, family, b", DSFID ", a, b, 8);
-    let locked = put_bit_change(out, format, b", AFI locked", a, b, 1);
-    put_bit_change(out, locked, b", DSFID locked", a, b, 2)
+    put_state_change(line, a, b);
+    put_byte_change(line, b", AFI ", a, b, 9);
+    put_byte_change(line, b", DSFID ", a, b, 8);
+    put_bit_change(line, b", AFI locked", a, b, 1);
+    put_bit_change(line, b", DSFID locked", a, b, 2);
 }
 
 // Block n, where its bytes changed.
-fn put_block_content(out: &mut [u8], at: usize, a: &[u8], b: &[u8], n: u8) -> usize
-    requires { Sized b.now × (n ≤ get_or b.now 11 0) × (length b.now ≤ length a.now) }
-    ensures { Puts (block_content a.now b.now n) at out.old out.new result }
+#[tactic(auto, using(print::proofs::Lines::lines, label_body::proofs::BodyRoom::sized_long, label_body::proofs::BodyRoom::block_inside, crate::proofs::ChangeLaid::part_of), unfolding(crate::specs::Labels::block_content))]
+fn put_block_content<const N: usize>(line: &mut Line<N>, c: &Label, n: u8)
+    requires { n ≤ get_or c.now.after.now 11 0 }
+    ensures { line.new ≡ laid N line.old (block_content c.now.before.now c.now.after.now n) }
 {
-    let p = place(b, n);
-    let size = b[12] as usize + 1;
-    if same_bytes(a, b, p, size) {
-        return inside(out.len(), at);
+    let p = place(c.after, n);
+    let size = c.after[12] as usize + 1;
+    if !same_bytes(c.before, c.after, p, size) {
+        put_content(line, n, &c.after[p..p + size]);
     }
-    let end = p + size;
-    put_content(out, at, n, &b[p..end])
 }
 
-fn put_block_lock(out: &mut [u8], at: usize, a: &[u8], b: &[u8], n: u8) -> usize
-    ensures { Puts (block_lock a.now b.now n) at out.old out.new result }
+#[tactic(auto, using(print::proofs::Lines::lines), unfolding(crate::specs::Labels::block_lock))]
+fn put_block_lock<const N: usize>(line: &mut Line<N>, a: &[u8], b: &[u8], n: u8)
+    ensures { line.new ≡ laid N line.old (block_lock a.now b.now n) }
 {
     let old = lock_on(a, n);
     let new = lock_on(b, n);
-    put_lock_change(out, at, old == 1, new == 1, n)
+    put_lock_change(line, old == 1, new == 1, n);
 }
 
-fn put_block(out: &mut [u8], at: usize, a: &[u8], b: &[u8], n: u8) -> usize
-    requires { Sized b.now × (n ≤ get_or b.now 11 0) × (length b.now ≤ length a.now) }
-    ensures { Puts (block_change a.now b.now n) at out.old out.new result }
+#[tactic(auto, using(print::proofs::Lines::lines), unfolding(crate::specs::Labels::block_change))]
+fn put_block<const N: usize>(line: &mut Line<N>, c: &Label, n: u8)
+    requires { n ≤ get_or c.now.after.now 11 0 }
+    ensures { line.new ≡ laid N line.old (block_change c.now.before.now c.now.after.now n) }
 {
-    let written = put_block_content(out, at, a, b, n);
-    put_block_lock(out, written, a, b, n)
+    put_block_content(line, c, n);
+    put_block_lock(line, c.before, c.after, n);
 }
 
-fn put_blocks(out: &mut [u8], at: usize, a: &[u8], b: &[u8]) -> usize
-    requires { Sized b.now × (length b.now ≤ length a.now) }
-    ensures { Puts (block_changes a.now b.now) at out.old out.new result }
+#[tactic(auto, using(print::proofs::Lines::gathered, label_body::proofs::BodyRoom::sized_long), unfolding(crate::specs::Labels::block_changes))]
+fn put_blocks<const N: usize>(line: &mut Line<N>, c: &Label)
+    ensures { line.new ≡ laid N line.old (block_changes c.now.before.now c.now.after.now) }
 {
-    let count = b[11] as usize + 1;
-    let mut p = inside(out.len(), at);
-    let mut i = 0;
-    while i < count {
-        p = put_block(out, p, a, b, i as u8);
-        i += 1;
+    for n in 0..=c.after[11] {
+        put_block(line, c, n);
     }
-    p
 }
 
-fn put_label_changes(out: &mut [u8], at: usize, a: &[u8], b: &[u8]) -> usize
-    requires { Sized b.now × (length b.now ≤ length a.now) }
-    ensures { Puts (label_changes a.now b.now) at out.old out.new result }
+#[tactic(auto, using(print::proofs::Lines::lines), unfolding(crate::specs::Labels::label_changes))]
+fn put_label_changes<const N: usize>(line: &mut Line<N>, c: &Label)
+    ensures { line.new ≡ laid N line.old (label_changes c.now.before.now c.now.after.now) }
 {
-    let fields = put_fields(out, at, a, b);
-    put_blocks(out, fields, a, b)
-}
-
-fn put_coloned(out: &mut [u8], at: usize, a: &[u8], b: &[u8]) -> usize
-    requires { Sized b.now × (length b.now ≤ length a.now) }
-    ensures { Puts (coloned_changes a.now b.now) at out.old out.new result }
-{
-    let end = put_label_changes(out, at, a, b);
-    set_colon(out, at, end)
+    put_fields(line, c.before, c.after);
+    put_blocks(line, c);
 }
 
 // Whether something changed that is told: state, AFI, DSFID, locks or blocks. A body before that is shorter has nothing to be told from.
+#[tactic(auto, unfolding(crate::specs::Labels::label_told))]
 fn is_told(a: &[u8], b: &[u8]) -> bool
     requires { 32 ≤ length b.now }
     ensures { result ≡ label_told a.now b.now }
 {
-    if a.len() < b.len() {
-        return false;
-    }
-    if same_bytes(a, b, 8, 7) {
-        return !same_bytes(a, b, 32, b.len() - 32);
-    }
-    true
+    b.len() <= a.len() && (!same_bytes(a, b, 8, 7) || !same_bytes(a, b, 32, b.len() - 32))
 }
 
-fn put_told(out: &mut [u8], at: usize, a: &[u8], b: &[u8]) -> usize
-    requires { Sized b.now × (length b.now ≤ length a.now) }
-    ensures { Puts (told_line a.now b.now) at out.old out.new result }
+#[tactic(auto, using(print::proofs::Lines::lines, crate::proofs::ChangeLaid::coloned_laid, label_body::proofs::BodyRoom::sized_long), unfolding(crate::specs::Labels::told_line, crate::specs::Labels::coloned_changes))]
+fn put_told<const N: usize>(line: &mut Line<N>, c: &Label)
+    ensures { line.new ≡ laid N line.old (told_line c.now.before.now c.now.after.now) }
 {
-    let uid = uid_at(b, 0);
-    let named = put_text(out, at, b"  label ");
-    let known = put_uid(out, named, uid);
-    let told = put_coloned(out, known, a, b);
-    put_text(out, told, b"\n")
+    let from = open_line(line, b"  label ", uid_at(c.after, 0));
+    put_label_changes(line, c);
+    close_line(line, from);
 }
 
-// A label's line, where it has one.
-pub fn put_label_line(out: &mut [u8], at: usize, a: &[u8], b: &[u8]) -> usize
+// A label's line, where it has one. (A chip's has other lengths and texts.)
+#[tactic(auto, using(print::proofs::Lines::lines, label_body::proofs::BodyRoom::sized_long, crate::proofs::ChangeLaid::told_whole), unfolding(crate::specs::Labels::label_line))]
+pub fn put_label_line<const N: usize>(line: &mut Line<N>, a: &[u8], b: &[u8])
     requires { Sized b.now }
-    ensures { Puts (label_line a.now b.now) at out.old out.new result }
+    ensures { line.new ≡ laid N line.old (label_line a.now b.now) }
 {
     if is_told(a, b) {
-        return put_told(out, at, a, b);
+        let label = Label {
+            before: a,
+            after: b,
+        };
+        put_told(line, &label);
     }
-    inside(out.len(), at)
 }

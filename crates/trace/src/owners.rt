@@ -1,8 +1,8 @@
 // Who answered, where several did.
 ghost use Rattle.std.specs.Prelude.{◌≡◌, ◌<◌};
-ghost use Rattle.print.specs.Puts.{Puts};
-ghost use Rattle.rack.specs.File.{kind_of, count_of, kind_at};
-ghost use Rattle.rack.specs.Facts.{RackFine, TagFine, body_of};
+ghost use Rattle.print.specs.Line.{laid};
+ghost use Rattle.rack.specs.File.{count_of, kind_at};
+ghost use Rattle.rack.specs.Facts.{TagFine, body_of};
 ghost use Rattle.rack.specs.Tag.{carrying};
 ghost use Rattle.trace.specs.Owners.{tag_uid, answers_by, owner_text, owners_text};
 
@@ -10,68 +10,58 @@ use crate::change::put_when;
 use chip_body::body::uid_of;
 use frame::number::byte_at;
 use frame::uid::uid_at;
-use print::hex::put_uid;
-use print::put::{inside, put_nothing};
-use rack::file::{body_of, count, kind_of};
-use rack::tag::{CHIP, LABEL, said_of, speaking};
+use print::line::Line;
+use rack::tag::{Kind, said_of, speaking};
+use rack::whole::Rack;
 use request::signal::Signal;
 
-fn put_tag_uid(out: &mut [u8], at: usize, kind: u8, b: &[u8]) -> usize
-    requires { TagFine (kind_of kind) b.now }
-    ensures { Puts (tag_uid (kind_of kind) b.now) at out.old out.new result }
+#[tactic(auto, using(print::proofs::Lines::lines, rack::proofs::TagKinds::label_sized, rack::proofs::TagKinds::chip_80, label_body::proofs::BodyRoom::sized_long), unfolding(crate::specs::Owners::tag_uid))]
+fn put_tag_uid<const N: usize>(line: &mut Line<N>, kind: Kind, b: &[u8])
+    requires { TagFine kind b.now }
+    ensures { line.new ≡ laid N line.old (tag_uid kind b.now) }
 {
-    if kind == LABEL {
-        return put_uid(out, at, uid_at(b, 0));
+    match kind {
+        Kind::Label => line.uid(uid_at(b, 0)),
+        Kind::Chip => line.uid(uid_of(b)),
+        Kind::Other => {}
     }
-    if kind == CHIP {
-        return put_uid(out, at, uid_of(b));
-    }
-    put_nothing(out, at)
 }
 
 // Tag i's UID, behind a comma where there are more before it.
-fn put_owner(out: &mut [u8], at: usize, more: bool, tags: &[u8], i: usize) -> usize
-    requires { RackFine tags.now × (i < count_of tags.now) }
-    ensures { Puts (owner_text more (kind_at tags.now i) (body_of tags.now i)) at out.old out.new result }
+#[tactic(auto, using(print::proofs::Lines::lines), unfolding(crate::specs::Owners::owner_text))]
+fn put_owner<const N: usize>(line: &mut Line<N>, more: bool, rack: &Rack, i: usize)
+    requires { i < count_of rack.now }
+    ensures { line.new ≡ laid N line.old (owner_text more (kind_at rack.now i) (body_of rack.now i)) }
 {
-    let kind = kind_of(tags, i);
-    let p = put_when(out, at, more, b", ");
-    put_tag_uid(out, p, kind, body_of(tags, i))
+    put_when(line, more, b", ");
+    put_tag_uid(line, rack.kind(i), rack.body(i));
 }
 
 // Whether tag i answers.
-fn answers(tags: &[u8], i: usize, signal: Signal, bytes: &[u8], draw: u8) -> bool
-    requires { RackFine tags.now × (i < count_of tags.now) }
-    ensures { result ≡ answers_by (carrying signal bytes.now) draw (kind_at tags.now i) (body_of tags.now i) }
+#[tactic(auto, unfolding(crate::specs::Owners::answers_by))]
+fn answers(rack: &Rack, i: usize, signal: Signal, bytes: &[u8], draw: u8) -> bool
+    requires { i < count_of rack.now }
+    ensures { result ≡ answers_by (carrying signal bytes.now) draw (kind_at rack.now i) (body_of rack.now i) }
 {
-    let kind = kind_of(tags, i);
-    let said = said_of(kind, body_of(tags, i), signal, bytes, draw);
-    speaking(said)
+    speaking(said_of(rack.kind(i), rack.body(i), signal, bytes, draw))
 }
 
 // The UIDs of the tags that answer, in the order of the entries.
-pub fn put_owners(
-    out: &mut [u8],
-    at: usize,
+#[tactic(auto, using(print::proofs::Lines::gathered, crate::proofs::QuestionTags::some_none, crate::proofs::QuestionTags::some_more), unfolding(crate::specs::Owners::owners_text))]
+pub fn put_owners<const N: usize>(
+    line: &mut Line<N>,
     signal: Signal,
     bytes: &[u8],
     draws: &[u8],
-    tags: &[u8],
-) -> usize
-    requires { RackFine tags.now }
-    ensures { Puts (owners_text (carrying signal bytes.now) draws.now tags.now) at out.old
-        out.new result }
+    rack: &Rack,
+)
+    ensures { line.new ≡ laid N line.old (owners_text (carrying signal bytes.now) draws.now rack.now) }
 {
-    let n = count(tags);
-    let mut p = inside(out.len(), at);
     let mut more = false;
-    let mut i = 0;
-    while i < n {
-        if answers(tags, i, signal, bytes, byte_at(draws, i)) {
-            p = put_owner(out, p, more, tags, i);
+    for i in 0..rack.count() {
+        if answers(rack, i, signal, bytes, byte_at(draws, i)) {
+            put_owner(line, more, rack, i);
             more = true;
         }
-        i += 1;
     }
-    p
 }

@@ -1,15 +1,14 @@
 // Whether a rack has a tag of which something holds: one question for all of them, asked of each tag in turn.
 ghost use Rattle.std.specs.Prelude.{◌≡◌, true, ◌≤◌, length};
-ghost use Rattle.rack.specs.File.{kind_of, length_fits};
-ghost use Rattle.rack.specs.Facts.{RackFine};
+ghost use Rattle.rack.specs.Facts.{TagFine};
 ghost use Rattle.trace.specs.Question.{uid_on, label_fits, chip_fits, tag_fits, any_of, lowest_from};
 
 use label_body::body::{takes_part, uid_of};
-use rack::file::{body_of, count, kind_of};
-use rack::tag::{CHIP, LABEL};
+use rack::tag::Kind;
+use rack::whole::Rack;
 use request::label::Family;
 
-// What is asked of a tag.
+// What is asked of a tag. It is a value and no closure: a closure would say in its clause once more what it asks, and here one definition says it.
 #[derive(Clone, Copy)]
 pub enum Ask {
     // A label; one that is not off; one in this state.
@@ -30,16 +29,15 @@ pub enum Ask {
 }
 
 // Whether a label has this UID and is not off.
+#[tactic(auto, unfolding(crate::specs::Question::uid_on))]
 fn uid_on(b: &[u8], u: u64) -> bool
     requires { 32 ≤ length b.now }
     ensures { result ≡ uid_on u b.now }
 {
-    if uid_of(b) == u {
-        return b[14] != 0;
-    }
-    false
+    uid_of(b) == u && b[14] != 0
 }
 
+#[tactic(auto, unfolding(crate::specs::Question::label_fits))]
 fn label_fits(ask: Ask, b: &[u8]) -> bool
     requires { 32 ≤ length b.now }
     ensures { result ≡ label_fits ask b.now }
@@ -53,70 +51,56 @@ fn label_fits(ask: Ask, b: &[u8]) -> bool
         Ask::Uid(u) => uid_of(b) == u,
         Ask::UidOn(u) => uid_on(b, u),
         Ask::Slot(s) => b[15] == s,
-        Ask::Chip => false,
-        Ask::ChipOn => false,
-        Ask::ChipIn(_) => false,
+        Ask::Chip | Ask::ChipOn | Ask::ChipIn(_) => false,
     }
 }
 
+#[tactic(auto, unfolding(crate::specs::Question::chip_fits))]
 fn chip_fits(ask: Ask, state: u8) -> bool
     ensures { result ≡ chip_fits ask state }
 {
     match ask {
-        Ask::Label => false,
-        Ask::LabelOn => false,
-        Ask::LabelIn(_) => false,
-        Ask::Ready(_) => false,
-        Ask::Uid(_) => false,
-        Ask::UidOn(_) => false,
-        Ask::Slot(_) => false,
         Ask::Chip => true,
         Ask::ChipOn => state != 0,
         Ask::ChipIn(s) => state == s,
+        _ => false,
     }
 }
 
-fn tag_fits(ask: Ask, kind: u8, b: &[u8]) -> bool
-    requires { length_fits (kind_of kind) (length b.now) ≡ true }
-    ensures { result ≡ tag_fits ask (kind_of kind) b.now }
+#[tactic(auto, using(rack::proofs::TagKinds::fits_label, rack::proofs::TagKinds::fits_chip), unfolding(crate::specs::Question::tag_fits))]
+fn tag_fits(ask: Ask, kind: Kind, b: &[u8]) -> bool
+    requires { TagFine kind b.now }
+    ensures { result ≡ tag_fits ask kind b.now }
 {
-    if kind == LABEL {
-        return label_fits(ask, b);
+    match kind {
+        Kind::Label => label_fits(ask, b),
+        Kind::Chip => chip_fits(ask, b[76]),
+        Kind::Other => false,
     }
-    if kind == CHIP {
-        return chip_fits(ask, b[76]);
-    }
-    false
 }
 
 // Whether some tag fits.
-pub fn any(tags: &[u8], ask: Ask) -> bool
-    requires { RackFine tags.now }
-    ensures { result ≡ any_of ask tags.now }
+#[tactic(auto, unfolding(crate::specs::Question::any_of))]
+pub fn any(rack: &Rack, ask: Ask) -> bool
+    ensures { result ≡ any_of ask rack.now }
 {
-    let n = count(tags);
-    let mut i = 0;
-    while i < n {
-        let kind = kind_of(tags, i);
-        if tag_fits(ask, kind, body_of(tags, i)) {
+    for i in 0..rack.count() {
+        if tag_fits(ask, rack.kind(i), rack.body(i)) {
             return true;
         }
-        i += 1;
     }
     false
 }
 
 // The lowest slot that a label has, or 16.
-pub fn lowest_slot(tags: &[u8]) -> u8
-    requires { RackFine tags.now }
-    ensures { result ≡ lowest_from 16 0 tags.now }
+#[tactic(auto, unfolding(crate::specs::Question::lowest_from))]
+pub fn lowest_slot(rack: &Rack) -> u8
+    ensures { result ≡ lowest_from 16 0 rack.now }
 {
-    let mut s: u8 = 0;
-    while s < 16 {
-        if any(tags, Ask::Slot(s)) {
+    for s in 0..16 {
+        if any(rack, Ask::Slot(s)) {
             return s;
         }
-        s += 1;
     }
     16
 }

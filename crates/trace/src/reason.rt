@@ -1,10 +1,10 @@
 // Why nobody answered an event, by the rack that it left.
 ghost use Rattle.std.specs.Prelude.{◌≡◌, length};
-ghost use Rattle.rack.specs.Facts.{RackFine};
 ghost use Rattle.trace.specs.Reason.{for_uid, for_target, for_inventory, for_call, for_labels, for_end, in_inventory, for_order, for_chips, reason_of};
 
 use crate::question::{Ask, any, lowest_slot};
 use frame::uid::uid_number;
+use rack::whole::Rack;
 use request::chip::Order;
 use request::label::{Call, Family, Request, Target};
 use request::signal::Signal;
@@ -42,156 +42,139 @@ pub enum Reason {
 }
 
 // A task for one UID.
-fn for_uid(tags: &[u8], uid: u64) -> Reason
-    requires { RackFine tags.now }
-    ensures { result ≡ for_uid tags.now uid }
+#[tactic(auto, unfolding(crate::specs::Reason::for_uid))]
+fn for_uid(rack: &Rack, uid: u64) -> Reason
+    ensures { result ≡ for_uid rack.now uid }
 {
-    if !any(tags, Ask::Uid(uid)) {
+    if !any(rack, Ask::Uid(uid)) {
         return Reason::NoUid;
     }
-    if !any(tags, Ask::UidOn(uid)) {
+    if !any(rack, Ask::UidOn(uid)) {
         return Reason::LabelOff;
     }
     Reason::QuietSilent
 }
 
-fn for_target(tags: &[u8], to: Target, uid: u64) -> Reason
-    requires { RackFine tags.now }
-    ensures { result ≡ for_target tags.now to uid }
+#[tactic(auto, unfolding(crate::specs::Reason::for_target))]
+fn for_target(rack: &Rack, to: Target, uid: u64) -> Reason
+    ensures { result ≡ for_target rack.now to uid }
 {
     match to {
         Target::Everyone => Reason::NotReady,
         Target::Selected => Reason::NotSelected,
-        Target::One => for_uid(tags, uid),
+        Target::One => for_uid(rack, uid),
     }
 }
 
-fn for_inventory(tags: &[u8], family: Family, sixteen: bool) -> Reason
-    requires { RackFine tags.now }
-    ensures { result ≡ for_inventory tags.now family sixteen }
+#[tactic(auto, unfolding(crate::specs::Reason::for_inventory))]
+fn for_inventory(rack: &Rack, family: Family, sixteen: bool) -> Reason
+    ensures { result ≡ for_inventory rack.now family sixteen }
 {
-    if !any(tags, Ask::Ready(Family::Any)) {
+    if !any(rack, Ask::Ready(Family::Any)) {
         return Reason::NotReady;
     }
-    if !any(tags, Ask::Ready(family)) {
+    if !any(rack, Ask::Ready(family)) {
         return Reason::NoFamily;
     }
     if sixteen {
-        return Reason::InSlot(0);
+        Reason::InSlot(0)
+    } else {
+        Reason::NoMask
     }
-    Reason::NoMask
 }
 
 // What a label frame asks.
-fn for_call(tags: &[u8], frame: &[u8], call: Call, uid: u64) -> Reason
-    requires { RackFine tags.now }
-    ensures { result ≡ for_call tags.now frame.now call uid }
+#[tactic(auto, unfolding(crate::specs::Reason::for_call))]
+fn for_call(rack: &Rack, frame: &[u8], call: Call, uid: u64) -> Reason
+    ensures { result ≡ for_call rack.now frame.now call uid }
 {
     match call {
-        Call::Ignored => Reason::Other,
-        Call::Off => Reason::Other,
-        Call::On => Reason::Other,
-        Call::EndOfFrame => Reason::Other,
+        Call::Ignored | Call::Off | Call::On | Call::EndOfFrame => Reason::Other,
         Call::Nobody => Reason::Frame(why_nobody(frame)),
-        Call::Inventory(family, sixteen, _, _) => for_inventory(tags, family, sixteen),
-        Call::Fault(to, _) => for_target(tags, to, uid),
-        Call::Do(to, _, _, _) => for_target(tags, to, uid),
+        Call::Inventory(family, sixteen, _, _) => for_inventory(rack, family, sixteen),
+        Call::Fault(to, _) | Call::Do(to, _, _, _) => for_target(rack, to, uid),
     }
 }
 
-fn for_labels(tags: &[u8], frame: &[u8], request: Request) -> Reason
-    requires { RackFine tags.now }
-    ensures { result ≡ for_labels tags.now frame.now request }
+#[tactic(auto, unfolding(crate::specs::Reason::for_labels))]
+fn for_labels(rack: &Rack, frame: &[u8], request: Request) -> Reason
+    ensures { result ≡ for_labels rack.now frame.now request }
 {
-    if !any(tags, Ask::Label) {
+    if !any(rack, Ask::Label) {
         return Reason::NoLabel;
     }
-    if !any(tags, Ask::LabelOn) {
+    if !any(rack, Ask::LabelOn) {
         return Reason::FieldOff;
     }
-    let uid = request.uid;
-    let call = request.call;
-    for_call(tags, frame, call, uid_number(uid))
+    for_call(rack, frame, request.call, uid_number(request.uid))
 }
 
 // A bare end of frame.
-fn for_end(tags: &[u8]) -> Reason
-    requires { RackFine tags.now }
-    ensures { result ≡ for_end tags.now }
+#[tactic(auto, unfolding(crate::specs::Reason::for_end))]
+fn for_end(rack: &Rack) -> Reason
+    ensures { result ≡ for_end rack.now }
 {
-    let s = lowest_slot(tags);
+    let s = lowest_slot(rack);
     if s < 16 {
-        return Reason::InSlot(s);
+        Reason::InSlot(s)
+    } else {
+        Reason::NoRound
     }
-    Reason::NoRound
 }
 
 // This, where a chip is in inventory.
-fn in_inventory(tags: &[u8], reason: Reason) -> Reason
-    requires { RackFine tags.now }
-    ensures { result ≡ in_inventory tags.now reason }
+#[tactic(auto, unfolding(crate::specs::Reason::in_inventory))]
+fn in_inventory(rack: &Rack, reason: Reason) -> Reason
+    ensures { result ≡ in_inventory rack.now reason }
 {
-    if any(tags, Ask::ChipIn(2)) {
-        return reason;
+    if any(rack, Ask::ChipIn(2)) {
+        reason
+    } else {
+        Reason::NotInventory
     }
-    Reason::NotInventory
 }
 
 // What a chip frame asks.
-fn for_order(tags: &[u8], frame: &[u8], order: Order) -> Reason
-    requires { RackFine tags.now }
-    ensures { result ≡ for_order tags.now frame.now order }
+#[tactic(auto, unfolding(crate::specs::Reason::for_order))]
+fn for_order(rack: &Rack, frame: &[u8], order: Order) -> Reason
+    ensures { result ≡ for_order rack.now frame.now order }
 {
     match order {
         Order::Ignored => Reason::ChipFrame(why_ignored(frame)),
-        Order::Off => Reason::Other,
-        Order::On => Reason::Other,
+        Order::Off | Order::On => Reason::Other,
         Order::Initiate => Reason::ChipNotReady,
-        Order::Pcall => in_inventory(tags, Reason::NoDraw),
-        Order::Marker(s) => in_inventory(tags, Reason::ChipSlot(s)),
+        Order::Pcall => in_inventory(rack, Reason::NoDraw),
+        Order::Marker(s) => in_inventory(rack, Reason::ChipSlot(s)),
         Order::Select(_) => Reason::NoChipId,
-        Order::Completion => Reason::NoAnswer,
-        Order::Reset => Reason::NoAnswer,
-        Order::Read(_) => Reason::ChipNotSelected,
-        Order::Uid => Reason::ChipNotSelected,
-        Order::Write(_, _) => Reason::NoAnswer,
+        Order::Completion | Order::Reset | Order::Write(_, _) => Reason::NoAnswer,
+        Order::Read(_) | Order::Uid => Reason::ChipNotSelected,
     }
 }
 
-fn for_chips(tags: &[u8], frame: &[u8], order: Order) -> Reason
-    requires { RackFine tags.now }
-    ensures { result ≡ for_chips tags.now frame.now order }
+#[tactic(auto, unfolding(crate::specs::Reason::for_chips))]
+fn for_chips(rack: &Rack, frame: &[u8], order: Order) -> Reason
+    ensures { result ≡ for_chips rack.now frame.now order }
 {
-    if !any(tags, Ask::Chip) {
+    if !any(rack, Ask::Chip) {
         return Reason::NoChip;
     }
-    if !any(tags, Ask::ChipOn) {
+    if !any(rack, Ask::ChipOn) {
         return Reason::FieldOff;
     }
-    for_order(tags, frame, order)
+    for_order(rack, frame, order)
 }
 
 // Why nobody answered event `number` with a frame, which asks what the signal says.
-pub fn reason_of(number: u8, frame: &[u8], signal: Signal, tags: &[u8]) -> Reason
-    requires { RackFine tags.now }
-    ensures { result ≡ reason_of number frame.now signal tags.now }
+#[tactic(auto, unfolding(crate::specs::Reason::reason_of))]
+pub fn reason_of(number: u8, frame: &[u8], signal: Signal, rack: &Rack) -> Reason
+    ensures { result ≡ reason_of number frame.now signal rack.now }
 {
-    if number == 1 {
-        return Reason::EveryOff;
+    match number {
+        1 => Reason::EveryOff,
+        2 => Reason::TagsOn,
+        3 => for_labels(rack, frame, signal.label),
+        4 => for_end(rack),
+        5 => for_chips(rack, frame, signal.chip),
+        _ => Reason::Other,
     }
-    if number == 2 {
-        return Reason::TagsOn;
-    }
-    if number == 3 {
-        let request = signal.label;
-        return for_labels(tags, frame, request);
-    }
-    if number == 4 {
-        return for_end(tags);
-    }
-    if number == 5 {
-        let order = signal.chip;
-        return for_chips(tags, frame, order);
-    }
-    Reason::Other
 }

@@ -12,15 +12,13 @@ fn print_change(rt: &HostRuntime, tag: usize, place: usize, old: u8, new: u8) {
 
 // The changes of a tag whose body starts at a place.
 fn print_tag(rt: &HostRuntime, old: &[u8], new: &[u8], tag: usize, at: usize, len: usize) {
-    let mut i = 0;
-    while i < len {
-        let place = std::num::wrapping_add_usize(at, i);
+    for i in 0..len {
+        let place = at.wrapping_add(i);
         let a = byte_at(old, place);
         let b = byte_at(new, place);
         if a != b {
             print_change(rt, tag, i, a, b);
         }
-        i += 1;
     }
 }
 
@@ -28,12 +26,10 @@ fn print_tag(rt: &HostRuntime, old: &[u8], new: &[u8], tag: usize, at: usize, le
 pub fn print_changes(rt: &HostRuntime, old: &[u8], new: &[u8]) {
     let n = byte_at(new, 1) as usize;
     let mut at = entry_of(n);
-    let mut i = 0;
-    while i < n {
+    for i in 0..n {
         let e = entry_of(i);
         let len = byte_at(new, e + 2) as usize + 256 * byte_at(new, e + 3) as usize;
         print_tag(rt, old, new, i, at, len);
-        at = std::num::wrapping_add_usize(at, len);
-        i += 1;
+        at = at.wrapping_add(len);
     }
 }

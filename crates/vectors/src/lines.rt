@@ -20,36 +20,56 @@ ghost use Rattle.std.specs.Prelude.{◌≤◌, length};
 use crate::changes::print_changes;
 use crate::replies::{play_event, print_trouble};
 use crate::{racks, readers, sums};
-use frame::number::byte_at;
 use print::say::say;
 use script::lines::{Action, action_of};
-use text::hex::{HexRun, read_bytes};
-use text::lines::{Reached, is_end, next, source_of};
+use text::hex::read_bytes;
+use text::lines::{Reached, next, source_of};
 use text::words::first_word;
+
+// The most turns that are taken: no input outlasts them.
+const TURNS: u64 = 4611686018427387904;
+
+// A word of our own.
+#[derive(Clone, Copy)]
+enum Word {
+    Answer,
+    Frame,
+    Into,
+    Mask,
+    Narrow,
+    Request,
+    Sum,
+    Try,
+    Walk,
+}
+
+// The word that starts with a byte.
+fn word_of(mark: u8) -> Option<Word> {
+    match mark {
+        b'a' => Some(Word::Answer),
+        b'f' => Some(Word::Frame),
+        b'i' => Some(Word::Into),
+        b'm' => Some(Word::Mask),
+        b'n' => Some(Word::Narrow),
+        b'r' => Some(Word::Request),
+        b's' => Some(Word::Sum),
+        b't' => Some(Word::Try),
+        b'w' => Some(Word::Walk),
+        _ => None,
+    }
+}
 
 // Copies as much of src over the front of dst as both have.
 fn copy(src: &[u8], dst: &mut [u8]) {
-    let mut i = 0;
-    while i < src.len() {
-        if dst.len() <= i {
-            return;
-        }
-        dst[i] = src[i];
-        i += 1;
-    }
+    let n = src.len().min(dst.len());
+    dst[0..n].copy_from_slice(&src[0..n]);
 }
 
 // Reads hex to the front of out: how many bytes, or 0 where it is no hex.
 fn read_hex(line: &[u8], out: &mut [u8]) -> usize
     ensures { result ≤ length out.new }
 {
-    let run = read_bytes(line, out);
-    match run {
-        HexRun::Good(n) => n,
-        HexRun::Bad(_) => 0,
-        HexRun::Odd(_) => 0,
-        HexRun::Full => 0,
-    }
+    read_bytes(line, out).unwrap_or(0)
 }
 
 // Sets bytes from a place on, which the first two give.
@@ -57,7 +77,7 @@ fn set_bytes(bytes: &[u8], tags: &mut [u8]) {
     if bytes.len() < 2 {
         return;
     }
-    let at = byte_at(bytes, 0) as usize * 256 + byte_at(bytes, 1) as usize;
+    let at = u16::from_be_bytes([bytes[0], bytes[1]]) as usize;
     if tags.len() < at {
         return;
     }
@@ -73,60 +93,48 @@ fn poke(line: &[u8], tags: &mut [u8]) {
 // A line as the program play takes it.
 fn play_line(rt: &HostRuntime, line: &[u8], tags: &mut [u8], draws: &mut [u8]) {
     let mut bytes = [0u8; 512];
-    let action = action_of(line, draws, &mut bytes);
-    match action {
-        Action::Nothing => {}
-        Action::Play(number, n) => {
+    match action_of(line, draws, &mut bytes) {
+        Ok(Action::Nothing | Action::Random) => {}
+        Ok(Action::Play(number, n)) => {
             say(rt, b" ->");
             play_event(rt, tags, number, &bytes[0..n], draws);
         }
-        Action::Random => {}
-        Action::Wrong(trouble) => {
+        Err(trouble) => {
             say(rt, b" -> ");
             print_trouble(rt, trouble);
         }
     }
 }
 
-// Whether a line that starts with a byte is one of ours.
-fn is_ours(mark: u8) -> bool {
-    match mark {
-        b'a' | b'f' | b'i' | b'm' | b'n' | b'r' | b's' | b't' | b'w' => true,
-        _ => false,
-    }
-}
-
-fn act(rt: &HostRuntime, mark: u8, bytes: &[u8], tags: &mut [u8], draws: &[u8]) {
-    match mark {
-        b'a' => readers::answer(rt, bytes),
-        b'f' => readers::frame(rt, bytes),
-        b'i' => racks::into(rt, bytes, tags),
-        b'm' => sums::mask(rt, bytes),
-        b'n' => readers::narrow(rt, bytes),
-        b'r' => readers::request(rt, bytes, tags, draws),
-        b's' => sums::sum(rt, bytes),
-        b't' => racks::try_event(rt, bytes, tags),
-        b'w' => racks::walk_all(rt, bytes, tags),
-        _ => {}
+fn act(rt: &HostRuntime, word: Word, bytes: &[u8], tags: &mut [u8], draws: &[u8]) {
+    match word {
+        Word::Answer => readers::answer(rt, bytes),
+        Word::Frame => readers::frame(rt, bytes),
+        Word::Into => racks::into(rt, bytes, tags),
+        Word::Mask => sums::mask(rt, bytes),
+        Word::Narrow => readers::narrow(rt, bytes),
+        Word::Request => readers::request(rt, bytes, tags, draws),
+        Word::Sum => sums::sum(rt, bytes),
+        Word::Try => racks::try_event(rt, bytes, tags),
+        Word::Walk => racks::walk_all(rt, bytes, tags),
     }
 }
 
 // A line of ours.
-fn our_line(rt: &HostRuntime, mark: u8, line: &[u8], tags: &mut [u8], draws: &[u8]) {
+fn our_line(rt: &HostRuntime, word: Word, line: &[u8], tags: &mut [u8], draws: &[u8]) {
     let said = first_word(line);
     let rest = said.rest;
     let mut bytes = [0u8; 512];
     let n = read_hex(&line[rest..], &mut bytes);
     say(rt, b" -> ");
-    act(rt, mark, &bytes[0..n], tags, draws);
+    act(rt, word, &bytes[0..n], tags, draws);
 }
 
 fn any_line(rt: &HostRuntime, mark: u8, line: &[u8], tags: &mut [u8], draws: &mut [u8]) {
-    if is_ours(mark) {
-        our_line(rt, mark, line, tags, draws);
-        return;
+    match word_of(mark) {
+        Some(word) => our_line(rt, word, line, tags, draws),
+        None => play_line(rt, line, tags, draws),
     }
-    play_line(rt, line, tags, draws);
 }
 
 // A line and what it changed.
@@ -139,7 +147,7 @@ fn change(rt: &HostRuntime, mark: u8, line: &[u8], tags: &mut [u8], draws: &mut 
 
 // A line, with a rack in the first len bytes of tags; returns the length of the rack now.
 fn take(rt: &HostRuntime, line: &[u8], tags: &mut [u8], len: usize, draws: &mut [u8]) -> usize {
-    if line.len() == 0 {
+    if line.is_empty() {
         return len;
     }
     let mark = line[0];
@@ -151,51 +159,33 @@ fn take(rt: &HostRuntime, line: &[u8], tags: &mut [u8], len: usize, draws: &mut 
     }
     if mark == b'!' {
         poke(&line[1..], &mut tags[0..len]);
-        return len;
+    } else {
+        change(rt, mark, line, &mut tags[0..len], draws);
     }
-    change(rt, mark, line, &mut tags[0..len], draws);
     len
 }
 
-// One answer of `next`.
-fn turn(
-    rt: &HostRuntime,
-    reached: Reached,
-    line: &[u8],
-    tags: &mut [u8],
-    len: usize,
-    draws: &mut [u8],
-) -> usize {
-    match reached {
-        Reached::Line => {
-            say(rt, line);
-            let now = take(rt, line, tags, len, draws);
-            say(rt, b"\n");
-            now
-        }
-        Reached::Long => len,
-        Reached::End => len,
-    }
+// A line written again, with what came of it.
+fn turn(rt: &HostRuntime, line: &[u8], tags: &mut [u8], len: usize, draws: &mut [u8]) -> usize {
+    say(rt, line);
+    let now = take(rt, line, tags, len, draws);
+    say(rt, b"\n");
+    now
 }
 
-// Every line of the input: at most 2^62 turns, which no input outlasts.
+// Every line of the input.
 fn lines(rt: &HostRuntime, buf: &mut [u8], tags: &mut [u8], draws: &mut [u8]) {
     let mut input = rt.stdin();
     let mut source = source_of();
     let mut len: usize = 0;
-    let mut left: u64 = 4611686018427387904;
-    while 0 < left {
-        left -= 1;
+    for _ in 0..TURNS {
         let got = next(rt, &mut input, source, buf);
-        let reached = got.reached;
-        if is_end(reached) {
-            return;
+        match got.reached {
+            Reached::Line(from, to) => len = turn(rt, &buf[from..to], tags, len, draws),
+            Reached::Long => {}
+            Reached::End => return,
         }
-        let from = got.from;
-        let to = got.to;
-        len = turn(rt, reached, &buf[from..to], tags, len, draws);
-        let s = got.source;
-        source = s;
+        source = got.source;
     }
 }
 

@@ -29,10 +29,10 @@ fn several(rt: &HostRuntime, name: &[u8], at: usize, n: usize, count: usize) {
 }
 
 fn word(rt: &HostRuntime, w: u32) {
-    say_byte(rt, b"word ", (w / 16777216) as u8);
-    print_byte(rt, (w / 65536 % 256) as u8);
-    print_byte(rt, (w / 256 % 256) as u8);
-    print_byte(rt, (w % 256) as u8);
+    say(rt, b"word ");
+    for b in &w.to_be_bytes() {
+        print_byte(rt, *b);
+    }
 }
 
 fn print_meaning(rt: &HostRuntime, m: Meaning) {
@@ -59,9 +59,7 @@ fn print_meaning(rt: &HostRuntime, m: Meaning) {
 
 // The meaning, and the UID beside it.
 pub fn print_reading(rt: &HostRuntime, r: Reading) {
-    let m = r.meaning;
-    let u = r.uid;
-    print_meaning(rt, m);
+    print_meaning(rt, r.meaning);
     say(rt, b" UID ");
-    print_uid(rt, u);
+    print_uid(rt, r.uid);
 }

@@ -11,13 +11,8 @@ const ROOM: usize = 8480;
 
 // Says so where a buffer has not the byte EE everywhere.
 fn stays(rt: &HostRuntime, out: &[u8]) {
-    let mut i = 0;
-    while i < out.len() {
-        if out[i] != 0xEE {
-            say(rt, b", buffer changed");
-            return;
-        }
-        i += 1;
+    if out.iter().any(|b| *b != 0xEE) {
+        say(rt, b", buffer changed");
     }
 }
 
@@ -40,10 +35,7 @@ fn play_into(rt: &HostRuntime, number: u8, tags: &mut [u8], draws: &[u8], answer
 pub fn try_event(rt: &HostRuntime, bytes: &[u8], tags: &mut [u8]) {
     let n = byte_at(bytes, 1) as usize;
     let room = byte_at(bytes, 2) as usize * 256 + byte_at(bytes, 3) as usize;
-    if 8 < n {
-        return;
-    }
-    if ROOM < room {
+    if 8 < n || ROOM < room {
         return;
     }
     let draws = [0u8; 8];
@@ -84,22 +76,17 @@ pub fn into(rt: &HostRuntime, bytes: &[u8], tags: &mut [u8]) {
 
 // The family that a byte names, or any where there is none.
 fn family_of(bytes: &[u8]) -> Family {
-    if bytes.len() == 0 {
-        return Family::Any;
+    match bytes.first() {
+        Some(afi) => Family::Only(*afi),
+        None => Family::Any,
     }
-    Family::Only(bytes[0])
 }
 
 // The UIDs of the first n labels of a list, high byte first, a space before each.
 fn print_uids(rt: &HostRuntime, list: &[u8], n: usize) {
-    let mut i = 0;
-    while i < n {
-        if list.len() / 8 <= i {
-            return;
-        }
+    for uid in list.chunks_exact(8).take(n) {
         say(rt, b" ");
-        print_uid(rt, uid_at(list, 8 * i));
-        i += 1;
+        print_uid(rt, uid_at(uid, 0));
     }
 }
 

@@ -8,9 +8,10 @@ use answer::reading::read_answer;
 use event::call::LEAST;
 use face::fields::{Fields, command_of};
 use frame::number::{byte_at, number_at};
+use frame::refusal::Refusal;
 use print::say::{print_bytes, print_number, say, say_number};
 use reader::command::Command;
-use reader::writer::{Written, write_request};
+use reader::writer::try_write;
 use script::draws::draws_for;
 
 // The UID that commands to one UID name.
@@ -20,9 +21,10 @@ fn uid() -> [u8; 8] {
 
 fn mask_of(bytes: &[u8]) -> u64 {
     if bytes.len() < 17 {
-        return 0;
+        0
+    } else {
+        number_at(bytes, 9, 8)
     }
-    number_at(bytes, 9, 8)
 }
 
 // The command that bytes start with; what it does not have is not looked at.
@@ -45,10 +47,7 @@ fn command(bytes: &[u8]) -> Command {
 
 // How many bytes a command has: of kind 1 some codes have more than the others.
 fn length_of(bytes: &[u8]) -> usize {
-    if byte_at(bytes, 0) != 1 {
-        return 6;
-    }
-    if byte_at(bytes, 3) != 0 {
+    if byte_at(bytes, 0) != 1 || byte_at(bytes, 3) != 0 {
         return 6;
     }
     match byte_at(bytes, 4) {
@@ -62,11 +61,7 @@ fn length_of(bytes: &[u8]) -> usize {
 fn behind(bytes: &[u8]) -> usize
     ensures { result ≤ length bytes.now }
 {
-    let n = length_of(bytes);
-    if bytes.len() < n {
-        return bytes.len();
-    }
-    n
+    length_of(bytes).min(bytes.len())
 }
 
 // What a frame means as an answer to a command that was sent with n bytes of data.
@@ -91,10 +86,7 @@ fn read_back(rt: &HostRuntime, bytes: &[u8], answered: u8, answer: &[u8], len: u
 
 // The event of a command's kind.
 fn event_of(bytes: &[u8]) -> u8 {
-    if byte_at(bytes, 0) == 2 {
-        return 5;
-    }
-    3
+    if byte_at(bytes, 0) == 2 { 5 } else { 3 }
 }
 
 // A command's frame is played, and its answer read.
@@ -106,30 +98,31 @@ fn send(rt: &HostRuntime, bytes: &[u8], frame: &[u8], tags: &mut [u8], draws: &[
 }
 
 // The request of a command, with the data behind it.
-fn write(bytes: &[u8], out: &mut [u8]) -> Written {
+fn write(bytes: &[u8], out: &mut [u8]) -> Result<usize, Refusal> {
     let at = behind(bytes);
-    write_request(command(bytes), uid(), &bytes[at..], out)
+    try_write(command(bytes), uid(), &bytes[at..], out)
 }
 
 pub fn request(rt: &HostRuntime, bytes: &[u8], tags: &mut [u8], draws: &[u8]) {
     let mut out = [0xEEu8; 64];
-    let w = write(bytes, &mut out);
-    if w.number != 0 {
-        say_number(rt, b"refused ", w.number as u64);
-        return;
+    match write(bytes, &mut out) {
+        Ok(n) => {
+            if n <= out.len() {
+                print_bytes(rt, &out[0..n]);
+                send(rt, bytes, &out[0..n], tags, draws);
+            }
+        }
+        Err(why) => say_number(rt, b"refused ", why.number() as u64),
     }
-    let n = w.length;
-    if 64 < n {
-        return;
-    }
-    print_bytes(rt, &out[0..n]);
-    send(rt, bytes, &out[0..n], tags, draws);
 }
 
 pub fn narrow(rt: &HostRuntime, bytes: &[u8]) {
     let mut out = [0xEEu8; 63];
-    let w = write(bytes, &mut out);
-    print_number(rt, w.number as u64);
+    let number = match write(bytes, &mut out) {
+        Ok(_) => 0,
+        Err(why) => why.number(),
+    };
+    print_number(rt, number as u64);
 }
 
 // An answer to a command that was sent with one byte of data.

@@ -1,5 +1,6 @@
 // The reply to an event, and what is wrong with a line, printed.
 use event::call::{LEAST, event};
+use print::line::Line;
 use print::say::say;
 use script::draws::draws_for;
 use tell::line::put_reply;
@@ -11,13 +12,13 @@ pub fn play_event(rt: &HostRuntime, tags: &mut [u8], number: u8, frame: &[u8], d
     let mut answer = [0u8; LEAST];
     let n = draws_for(tags, draws.len());
     let report = event(tags, number, frame, part_of(draws, 0, n), &mut answer);
-    let mut text = [0u8; 32768];
-    let m = put_reply(&mut text, 0, report, &answer);
-    say(rt, part_of(&text, 0, m));
+    let mut line = Line::<32768>::new();
+    put_reply(&mut line, report, &answer);
+    say(rt, line.text());
 }
 
 pub fn print_trouble(rt: &HostRuntime, trouble: Trouble) {
-    let mut text = [0u8; 128];
-    let n = put_trouble(&mut text, 0, trouble);
-    say(rt, part_of(&text, 0, n));
+    let mut line = Line::<128>::new();
+    put_trouble(&mut line, trouble);
+    say(rt, line.text());
 }

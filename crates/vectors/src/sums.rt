@@ -9,19 +9,17 @@ use print::say::{print_bytes, say, say_byte};
 
 // A name and a sum, low byte first as it is sent.
 fn print_sum(rt: &HostRuntime, name: &[u8], sum: u16) {
-    say_byte(rt, name, (sum % 256) as u8);
-    say_byte(rt, b" ", (sum / 256) as u8);
+    let [low, high] = sum.to_le_bytes();
+    say_byte(rt, name, low);
+    say_byte(rt, b" ", high);
 }
 
-// The bytes with their check sum, at the front of out: how many there are, or 0 where they have no room.
+// The bytes with their check sum, at the front of out: how many there are, or 0 where they have no room. No Option: both callers go on with none then.
 pub fn seal_into(bytes: &[u8], out: &mut [u8]) -> usize
     ensures { result ≤ length out.new }
 {
     let n = bytes.len();
-    if out.len() < 2 {
-        return 0;
-    }
-    if out.len() - 2 < n {
+    if out.len() < 2 || out.len() - 2 < n {
         return 0;
     }
     put_bytes(out, 0, bytes, n);
@@ -46,16 +44,17 @@ pub fn sum(rt: &HostRuntime, bytes: &[u8]) {
     print_sum(rt, b", register ", check_sum::run(65535, bytes));
     if check_sum::is_right(bytes) {
         say(rt, b", right");
-        return;
+    } else {
+        say(rt, b", wrong");
     }
-    say(rt, b", wrong");
 }
 
 fn ends(bytes: &[u8], u: [u8; 8], mask: u64, m: u32) -> bool {
     if bytes.len() == 17 {
-        return uid::ends_in(u, mask, m);
+        uid::ends_in(u, mask, m)
+    } else {
+        uid::ends_in_slot(u, mask, m, byte_at(bytes, 17))
     }
-    uid::ends_in_slot(u, mask, m, byte_at(bytes, 17))
 }
 
 pub fn mask(rt: &HostRuntime, bytes: &[u8]) {
@@ -67,7 +66,7 @@ pub fn mask(rt: &HostRuntime, bytes: &[u8]) {
     let m = byte_at(bytes, 16) as u32;
     if ends(bytes, u, mask, m) {
         say(rt, b"yes");
-        return;
+    } else {
+        say(rt, b"no");
     }
-    say(rt, b"no");
 }

@@ -1,16 +1,11 @@
 -- What was handed over is all that was said. Assumes nothing.
-use Rattle.std.proofs.Common.{◌≡◌, length}
 use Rattle.rack.specs.Facts.{RackFine}
-use Rattle.play.specs.Facts.{Room}
-use Rattle.play.specs.Session.{stand}
+use Rattle.play.specs.Session.{stand, stand_of}
 use Rattle.play.proofs.SessionLaid.{Told}
 use Rattle.play.proofs.session.play_lines.Given as goal
 
-abbrev pub invariant-loop-left : goal.invariant-loop-left
-invariant-loop-left l = Told l.quiet (stand l.initial.from l.initial.buf l.initial.n l.initial.tags l.initial.draws l.initial.bytes) (stand l.from l.buf l.n l.tags l.draws l.bytes)
-    × RackFine l.tags × Room l.old l.answer l.meaning × (length l.buf ≡ length l.initial.buf) × (length l.tags ≡ length l.initial.tags) × (length l.draws ≡ length l.initial.draws)
-    × (length l.bytes ≡ length l.initial.bytes) × (length l.old ≡ length l.initial.old) × (length l.answer ≡ length l.initial.answer) × (length l.meaning ≡ length l.initial.meaning)
-    × (length l.out ≡ length l.initial.out)
-
-abbrev pub decreases-loop-left : goal.decreases-loop-left
-decreases-loop-left l = l.left
+abbrev pub invariant-loop : goal.invariant-loop
+invariant-loop l = record {
+  told_all : Told l.quiet (stand l.fn.session.source l.fn.session.buf 0 l.fn.tags l.fn.session.draws l.fn.session.bytes) (stand_of l.session l.tags);
+  fine : RackFine l.tags;
+}

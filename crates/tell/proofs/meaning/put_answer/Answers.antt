@@ -1,13 +1,9 @@
--- Each way out is a law of MeaningWays; the search finds it, and its premises among the facts. Assumes nothing.
+-- Every place that is told lies in the frame. Assumes nothing.
+use Rattle.std.proofs.Common.{rules}
 use Rattle.answer.proofs.AnswerInside.{told_inside}
 use Rattle.tell.specs.Commands.{reading_for}
-use Rattle.tell.proofs.MeaningWays.{ways}
 use Rattle.tell.proofs.meaning.put_answer.Goals as goal
 
--- every place that is told lies in the frame
 pub put_meaning-requires : goal.put_meaning-requires
 unfolding reading_for
-put_meaning-requires c = rw c.reading_of-reading.ensures (told_inside _ _ _ _)
-
-pub returns : goal.returns
-returns c = search ways
+put_meaning-requires g c = (search rules, rw c.reading_of-reading.ensures (told_inside _ _ _ _))

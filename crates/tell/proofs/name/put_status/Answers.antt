@@ -1,8 +1,8 @@
--- Two puts, one behind the other. Assumes nothing.
+-- The text is long. Assumes nothing.
+use Rattle.print.proofs.Lines.{long_lines}
 use Rattle.tell.specs.Names.{status_text}
-use Rattle.print.proofs.Puts.{puts}
 use Rattle.tell.proofs.name.put_status.Goals as goal
 
 pub returns : goal.returns
 unfolding status_text
-returns c = search puts
+returns g c = search long_lines

@@ -1,10 +1,8 @@
 -- The first i blocks are not locked. Assumes nothing.
-use Prim.Native.Nat.{◌+◌, ◌-◌}
-use Rattle.tell.proofs.SeveralWays.{Testing, free}
+use Rattle.std.proofs.Common.{◌≡◌, true, ℕ, ◌==◌}
+use Rattle.frame.specs.Choose.{all_of}
+use Rattle.tell.specs.Meanings.{lock_at}
 use Rattle.tell.proofs.several.are_unlocked.Given as goal
 
 abbrev pub invariant-loop-i : goal.invariant-loop-i
-invariant-loop-i l = Testing l.place (1 + l.long) l.count (free l.place l.long l.f) l.at l.i
-
-abbrev pub decreases-loop-i : goal.decreases-loop-i
-decreases-loop-i l = l.count - l.i
+invariant-loop-i l = all_of l.i (λ (i : ℕ). lock_at l.blocks.place l.blocks.long l.blocks.frame.now i == 0) ≡ true

@@ -1,9 +1,9 @@
--- Each way out is a law of SeveralWays; the search finds it, and its premises among the facts. Assumes nothing.
-use Rattle.tell.proofs.SeveralWays.{ways}
+-- The text is long. Assumes nothing.
+use Rattle.std.proofs.Common.{sym, ◌∙◌}
+use Rattle.print.proofs.Lines.{long_lines}
+use Rattle.tell.specs.Meanings.{locked_text}
 use Rattle.tell.proofs.several.put_locked.Goals as goal
 
-pub returns-then-are_unlocked : goal.returns-then-are_unlocked
-returns-then-are_unlocked c = search ways
-
-pub returns : goal.returns
-returns c = search ways
+pub returns-else-are_unlocked : goal.returns-else-are_unlocked
+unfolding locked_text
+returns-else-are_unlocked g c = rw (sym c.are_unlocked.ensures ∙ c.if-are_unlocked.false) (search long_lines)

@@ -1,10 +1,10 @@
--- The numbers of the first i blocks are laid; a turn lays the next. Assumes nothing.
-use Prim.Native.Nat.{◌+◌, ◌-◌}
-use Rattle.tell.proofs.SeveralWays.{Laying, named}
+-- The numbers of the first i blocks are laid. Assumes nothing.
+use Rattle.std.proofs.Common.{◌≡◌, ◌+◌, ℕ}
+use Rattle.frame.specs.Choose.{gather}
+use Rattle.print.specs.Line.{laid}
+use Rattle.tell.specs.Meanings.{lock_at, locked_one}
 use Rattle.tell.proofs.several.put_numbers.Given as goal
 
 abbrev pub invariant-loop-i : goal.invariant-loop-i
-invariant-loop-i l = Laying l.place (1 + l.long) l.count (named l.first l.place l.long l.f) l.at l.initial.out l.out l.p l.from l.i
-
-abbrev pub decreases-loop-i : goal.decreases-loop-i
-decreases-loop-i l = l.count - l.i
+invariant-loop-i g l = l.line
+    ≡ laid g.row.N l.initial.line (gather l.i (λ (i : ℕ). locked_one (lock_at l.blocks.place l.blocks.long l.blocks.frame.now i) (l.first + i)))

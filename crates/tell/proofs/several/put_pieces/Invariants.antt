@@ -1,11 +1,9 @@
--- The first i blocks are laid; a turn lays the next. Assumes nothing.
-use Prim.Native.Nat.{◌+◌, ◌-◌}
+-- The first i blocks are laid. Assumes nothing.
+use Rattle.std.proofs.Common.{◌≡◌}
+use Rattle.frame.specs.Choose.{gather}
+use Rattle.print.specs.Line.{laid}
 use Rattle.tell.specs.Meanings.{piece_at}
-use Rattle.tell.proofs.SeveralWays.{Laying}
 use Rattle.tell.proofs.several.put_pieces.Given as goal
 
 abbrev pub invariant-loop-i : goal.invariant-loop-i
-invariant-loop-i l = Laying l.place (l.gap + l.long) l.count (piece_at l.place l.gap l.long l.f) l.at l.initial.out l.out l.p l.from l.i
-
-abbrev pub decreases-loop-i : goal.decreases-loop-i
-decreases-loop-i l = l.count - l.i
+invariant-loop-i g l = l.line ≡ laid g.row.N l.initial.line (gather l.i (piece_at l.blocks.place g.row.GAP l.blocks.long l.blocks.frame.now))

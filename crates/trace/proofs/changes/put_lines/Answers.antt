@@ -1,50 +1,23 @@
-use mathlib.Core.Path.{sym, ◌∙◌}
-use native.Mathlib.Omega.{arith}
-use Prim.Native.Nat.{◌<◌}
-use Rattle.rack.specs.File.{count_of}
+-- A tag's line is laid, or it has none. Assumes nothing.
+use Rattle.std.proofs.Common.{◌∙◌, sym, arith, ℕ, ◌<◌}
+use Rattle.rack.specs.File.{count_of, kind_at}
+use Rattle.rack.specs.Facts.{body_of}
 use Rattle.trace.specs.Calm.{Only}
-use Rattle.trace.specs.Changes.{lines_text}
-use Rattle.trace.proofs.ChangeLaid.{gathering_none, gathering_on, gathering_past, gathering_done}
+use Rattle.trace.specs.Changes.{tag_line}
+use Rattle.trace.proofs.ChangeLaid.{gathered_on, gathered_past}
 use Rattle.trace.proofs.changes.put_lines.Goals as goal
 use Rattle.trace.proofs.changes.put_lines.Goals.{then-may_have_line, else-may_have_line}
 
-pub put_line_at-p-requires : goal.put_line_at-p-requires
-put_line_at-p-requires c =
-    let in-new : c.loop-i.i < count_of c.args.new.now = omega (arith, c.count-n.ensures, c.loop-i-test.true) in
-    let in-old : c.loop-i.i < count_of c.args.old.now = omega (arith, in-new, c.requires.value) in
-    (c.requires.rack_fine.0, c.requires.rack_fine.1, in-old, in-new)
-
 pub loop-i-preserved : goal.loop-i-preserved
 unfolding Only
-loop-i-preserved c =
-    let in-new : c.loop-i.i < count_of c.args.new.now = omega (arith, c.count-n.ensures, c.loop-i-test.true) in
-    let g = c.loop-i.invariant in
-    let h = c.loop-i-test.true in
+loop-i-preserved g c =
+    let a = c.args in
+    let there : c.loop-i.i < count_of a.new.now = omega (arith, c.count-i-end.ensures.value, c.loop-i-test.true) in
+    let f = λ (j : ℕ). tag_line (kind_at a.new.now j) (body_of a.old.now j) (body_of a.new.now j) in
     elim c.if-may_have_line.branch [
-      | then-may_have_line w ↦ rw (w.out-is, w.p-is) (gathering_on g h w.put_line_at-p.ensures)
+      | then-may_have_line w ↦ rw w.line-is (gathered_on g.row.N a.line.now f c.loop-i.i c.loop-i.invariant w.put_line_at.ensures)
       | else-may_have_line w ↦
-          rw (w.out-is, w.p-is)
-          (gathering_past g h (c.requires.only c.loop-i.i in-new (sym c.may_have_line.ensures ∙ w.if-may_have_line.false)))
+          rw w.line-is
+          (gathered_past g.row.N a.line.now f c.loop-i.i c.loop-i.invariant
+          (c.requires.only c.loop-i.i there (sym c.may_have_line.ensures ∙ w.if-may_have_line.false)))
     ]
-
-pub returns : goal.returns
-unfolding lines_text
-returns c = gathering_done c.loop-i.invariant c.loop-i-test.false c.count-n.ensures
-
-pub count-n-requires : goal.count-n-requires
-count-n-requires c =
-    c.requires.rack_fine.1.head.two_bytes
-
-pub loop-i-init : goal.loop-i-init
-loop-i-init c =
-    gathering_none _ _ _ _ c.inside-p.ensures
-
-pub may_have_line-requires : goal.may_have_line-requires
-may_have_line-requires c =
-    let in-new : c.loop-i.i < count_of c.args.new.now = omega (arith, c.count-n.ensures, c.loop-i-test.true) in
-    let in-old : c.loop-i.i < count_of c.args.old.now = omega (arith, in-new, c.requires.value) in
-    (c.requires.rack_fine.0, in-old)
-
-pub shape_of-out : goal.shape_of-out
-shape_of-out c =
-    c.loop-i.invariant.same
