@@ -4,14 +4,13 @@
 -- Assumes nothing.
 use mathlib.Core.Path.{◌≡◌, refl, ap, sym, ◌∙◌}
 use mathlib.Core.Bool.{Bool, true}
-use mathlib.Core.List.{List, [], ◌∷◌, ◌++◌, append_assoc}
+use mathlib.Core.List.{List, [], ◌∷◌, ◌++◌}
 use Prim.Native.Nat.{ℕ, suc, ◌+◌, ◌-◌, ◌/◌, ◌%◌, ◌≤◌, ◌<◌}
 use native.Mathlib.Nat.{sub-zero, add-zero, zero-add, add-suc, suc-add}
 use native.Mathlib.Numerals.{add-one}
 use native.Mathlib.Omega.{arith}
-use lib.ListN.{length, take, drop, set, length-append}
-use lib.Seq.{sets, sets-eq, take_at, length-take-le, drop-drop}
-use borrow.Rule.Slice.PartMut.{put_mid}
+use lib.ListN.{length, get_or, take, drop, set, length-append, length-take, drop_of_length-le}
+use lib.Seq.{sets, sets-eq, take_at, length-take-le, drop-cons, get_or-take}
 use Rattle.frame.specs.Number.{bytes_of, part}
 use Rattle.frame.specs.CheckSum.{crc_with, crc_of, framed_with, framed}
 use Rattle.frame.proofs.Numbers.{length_bytes}
@@ -44,11 +43,25 @@ number_more out fin at k i w e h = one out fin _ _ (at + i) (at + (i + 1)) (w % 
 pub number_all : (out fin : List ℕ) (at k i w : ℕ) → sets out (at + i) (bytes_of (k - i) w) ≡ fin → k ≤ i → out ≡ fin
 number_all out fin at k i w e h = none out fin _ (at + i) (bytes_none k i w h) e
 
--- a part written over by a copy
-pub copied : (out src new : List ℕ) (at n k : ℕ) → at + n ≤ length out → n ≤ length src → k ≡ n → new ≡ take n src → put_mid at k out new ≡ sets out at (take n src)
-copied out src new at n k h l e f =
-    let q : length (take n src) ≡ n = length-take-le n src l in
-    rw (e, f) (sym (sets-eq (take n src) out at (rw q h) ∙ rw (q, append_assoc, drop-drop n at)))
+-- what is left of the bytes to be copied, where some are left, and where none is
+pub left_next : (src : List ℕ) (n i : ℕ) → i < n → n ≤ length src → drop i (take n src) ≡ get_or src i 0 ∷ drop (i + 1) (take n src)
+left_next src n i h l =
+    let k : i < length (take n src) = rw (length-take-le n src l) h in
+    rw add-one (drop-cons (take n src) i 0 k ∙ rw (get_or-take n src i 0 h))
+
+pub left_none : (src : List ℕ) (n i : ℕ) → n ≤ i → drop i (take n src) ≡ []
+left_none src n i h = drop_of_length-le (take n src) {i = i} (rw length-take (omega arith))
+
+-- a loop that copies bytes: where it starts, a turn, and its end
+pub copy_none : (out src : List ℕ) (at n : ℕ) → sets out (at + 0) (drop 0 (take n src)) ≡ sets out at (take n src)
+copy_none out src at n = rw add-zero
+
+pub copy_more : (out fin src : List ℕ) (at n i : ℕ) → sets out (at + i) (drop i (take n src)) ≡ fin → i < n → n ≤ length src
+    → sets (set out (at + i) (get_or src i 0)) (at + (i + 1)) (drop (i + 1) (take n src)) ≡ fin
+copy_more out fin src at n i e h l = one out fin _ _ (at + i) (at + (i + 1)) (get_or src i 0) (left_next src n i h l) (omega arith) e
+
+pub copy_all : (out fin src : List ℕ) (at n i : ℕ) → sets out (at + i) (drop i (take n src)) ≡ fin → n ≤ i → out ≡ fin
+copy_all out fin src at n i e h = none out fin _ (at + i) (left_none src n i h) e
 
 -- ---- runs of stores
 

@@ -5,14 +5,13 @@ use mathlib.Core.Logic.{⊎_elim}
 use mathlib.Core.Bool.{Bool, true, false, ◌||◌, false≢true}
 use mathlib.Core.List.{List, [], ◌∷◌, map}
 use Prim.Native.Nat.{ℕ, suc, ◌+◌, ◌-◌, ◌≤◌, ◌<◌}
-use native.Mathlib.Nat.{mod-eq_of_lt, zero-add}
+use native.Mathlib.Nat.{mod-eq_of_lt}
 use native.Mathlib.Numerals.{add-one}
 use native.Mathlib.Omega.{arith}
 use borrow.Author.Tests.{eq-eqb, ne_eqb, eqb-true, le-leb, lt-leb, leb-true, leb-false}
 use lib.Dec.{eqb, leb}
 use lib.ListN.{length, get_or, take, drop, length-drop, drop_of_length-le}
 use lib.Seq.{drop-cons, take_all}
-use Rattle.std.specs.List.{list_any}
 use Rattle.frame.proofs.Bools.{or_off, below_or_not}
 use Rattle.request.specs.declared.label.Family.TheVariants.{Any}
 use Rattle.inventory.specs.Endings.{one, count, ending}
@@ -23,15 +22,27 @@ use Rattle.inventory.proofs.EndingsWalks.{Below}
 use Rattle.inventory.proofs.WalkEvents.{Fine}
 use Rattle.inventory.proofs.WalkUids.{uids_below}
 
--- ---- a UID sought among others
+-- ---- a UID sought among others: it is not one of the first i
 
-contained : (u : ℕ) (us : List ℕ) → list_any (λ y. eqb y u) us ≡ leb 1 (count u us)
-contained u [] = refl
-contained u (x ∷ us) = go (contained u us) (eqb x u) refl
-  where
-    go : list_any (λ y. eqb y u) us ≡ leb 1 (count u us) → (q : Bool) → eqb x u ≡ q → (q || list_any (λ y. eqb y u) us) ≡ leb 1 (one (eqb u x) + count u us)
-    go ih true e = sym (le-leb 1 (one (eqb u x) + count u us) (omega (arith, ap one (eq-eqb u x (sym (eqb-true x u e))))))
-    go ih false e = ih ∙ ap (leb 1) (sym (ap (λ (n : ℕ). n + count u us) (ap one (ne_eqb u x (λ o. false≢true (sym e ∙ eq-eqb x u (sym o))))) ∙ zero-add (count u us)))
+pub record Seeking (u : ℕ) (us : List ℕ) (i : ℕ) : Type 0 where
+  pub upto : i ≤ length us
+  pub ahead : count u (drop i us) ≡ count u us
+
+pub seeking_none : (u : ℕ) (us : List ℕ) → Seeking u us 0
+seeking_none u us = record { upto = omega arith; ahead = refl }
+
+module _ {u : ℕ} {us : List ℕ} {i : ℕ} (k : Seeking u us i) where
+  here : i < length us → one (eqb u (get_or us i 0)) + count u (drop (suc i) us) ≡ count u us
+  here h = sym (ap (count u) (drop-cons us i 0 h)) ∙ k.ahead
+
+  pub seeking_found : i < length us → get_or us i 0 ≡ u → true ≡ leb 1 (count u us)
+  seeking_found h e = sym (le-leb 1 (count u us) (omega (arith, here h, ap one (eq-eqb u (get_or us i 0) (sym e)))))
+
+  pub seeking_more : i < length us → (get_or us i 0 ≡ u → ⊥) → Seeking u us (i + 1)
+  seeking_more h e = rw (add-one i) (record { upto = h; ahead = omega (arith, here h, ap one (ne_eqb u (get_or us i 0) (λ o. e (sym o)))) })
+
+  pub seeking_done : length us ≤ i → false ≡ leb 1 (count u us)
+  seeking_done h = sym (ap (leb 1) (sym k.ahead ∙ ap (count u) (drop_of_length-le us {i = i} h)))
 
 -- ---- each sought among those behind it: none of the first i is there
 
@@ -47,12 +58,11 @@ module _ {us : List ℕ} {i : ℕ} (k : Comparing us i) where
   behind : i < length us → take (length us - (i + 1)) (drop (i + 1) us) ≡ drop (suc i) us
   behind h = take_all (length us - (i + 1)) (drop (i + 1) us) (rw length-drop (omega arith)) ∙ ap (λ (j : ℕ). drop j us) (add-one i)
 
-  module _ (h : i < length us) {t : Bool} (is : t ≡ list_any (λ y. eqb y (get_or us i 0)) (take (length us - (i + 1)) (drop (i + 1) us))) where
+  module _ (h : i < length us) {t : Bool} (is : t ≡ leb 1 (count (get_or us i 0) (take (length us - (i + 1)) (drop (i + 1) us)))) where
     here_too : (t || repeated (drop (suc i) us)) ≡ repeated us
     unfolding repeated
     here_too =
-        ap (λ (q : Bool). q || repeated (drop (suc i) us))
-        (is ∙ ap (list_any (λ y. eqb y (get_or us i 0))) (behind h) ∙ contained (get_or us i 0) (drop (suc i) us))
+        ap (λ (q : Bool). q || repeated (drop (suc i) us)) (is ∙ ap (λ (l : List ℕ). leb 1 (count (get_or us i 0) l)) (behind h))
         ∙ sym (ap repeated (drop-cons us i 0 h)) ∙ k.ahead
 
     pub comparing_found : t ≡ true → true ≡ repeated us

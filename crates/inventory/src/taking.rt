@@ -46,8 +46,9 @@ impl Uids {
         requires { length self.old < 64 }
         ensures { self.new ≡ self.old ++ u ∷ [] }
     {
-        self.all[self.count] = u;
-        self.count += 1;
+        let n = self.count;
+        self.all[n] = u;
+        self.count = n + 1;
     }
 
     pub fn as_slice(&self) -> &[u64]

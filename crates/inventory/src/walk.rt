@@ -1,10 +1,10 @@
 // The walk: a round, and then each collided slot carried through.
-ghost use Rattle.std.specs.Prelude.{◌≡◌, ◌≤◌, ◌<◌, ◌^◌, MatchResult};
+ghost use Rattle.std.specs.Prelude.{◌≡◌, ◌+◌, ◌≤◌, ◌<◌, ◌^◌, length, MatchResult};
+ghost use Rattle.std.proofs.lemmas.List.Edits.{sets};
 ghost use Rattle.frame.specs.Refusal.{refusal_number};
 ghost use Rattle.inventory.specs.Walk.{depth, refusal_of, uids};
-ghost use Rattle.inventory.specs.Numbers.{list_of, rounds_of};
-ghost use Rattle.inventory.specs.Listed.{Room, Lists};
-ghost use Rattle.inventory.specs.Promise.{Reply};
+ghost use Rattle.inventory.specs.Numbers.{slotted, singles, list_of, rounds_of};
+ghost use Rattle.inventory.specs.Promise.{flat, Reply};
 
 use crate::clear::clear_rack;
 use crate::round::{Listed, leading, play_round};
@@ -23,19 +23,42 @@ pub struct Walked {
     pub rounds: usize,
 }
 
-// Carries a branch through: a round, and then each slot with a collision. Gives how many rounds. 64 less the mask length falls; at 60 bits the round is the last.
+// What carrying a branch through comes back with: where the list goes on, how many rounds it took.
+#[derive(Clone, Copy)]
+struct Went {
+    cursor: usize,
+    rounds: usize,
+}
+
+// A round on the list from a place on; only it holds the two together. Gives where the list goes on.
+fn round_from(us: &mut [u64], bits: u8, list: &mut [u8], cursor: usize) -> usize
+    requires { cursor + length (flat (singles bits us.old)) ≤ length list.old }
+    ensures us_after { us.new ≡ slotted bits us.old }
+    ensures value { result ≡ cursor + length (flat (singles bits us.old)) }
+    ensures list_after { list.new ≡ sets list.old cursor (flat (singles bits us.old)) }
+{
+    let mut to = Listed {
+        bytes: list,
+        at: cursor,
+    };
+    play_round(us, bits, &mut to);
+    to.at
+}
+
+// Carries a branch through: a round, and then each slot with a collision. 64 less the mask length falls; at 60 bits the round is the last.
 // After the round the UIDs stand slot by slot, so that a slot's are a part of them.
-fn carry(us: &mut [u64], bits: u8, list: &mut Listed<'_>) -> usize
-    requires room { Room (list_of (depth bits) bits us.old) list.old }
+fn carry(us: &mut [u64], bits: u8, list: &mut [u8], cursor: usize) -> Went
+    requires room { cursor + length (flat (list_of (depth bits) bits us.old)) ≤ length list.old }
     requires few { rounds_of (depth bits) bits us.old < 2 ^ 64 }
     requires mask { bits ≤ 60 }
-    ensures list { Lists (list_of (depth bits) bits us.old) list.old list.new }
-    ensures rounds { result ≡ rounds_of (depth bits) bits us.old }
+    ensures list { list.new ≡ sets list.old cursor (flat (list_of (depth bits) bits us.old)) }
+    ensures cursor { result.cursor ≡ cursor + length (flat (list_of (depth bits) bits us.old)) }
+    ensures rounds { result.rounds ≡ rounds_of (depth bits) bits us.old }
 {
-    play_round(us, bits, list);
+    let mut at = round_from(us, bits, list, cursor);
     let mut rounds: usize = 1;
     if 56 < bits {
-        return rounds;
+        return Went { cursor: at, rounds };
     }
     // No index: a group is cut off at each turn.
     let mut rest = us;
@@ -43,11 +66,13 @@ fn carry(us: &mut [u64], bits: u8, list: &mut Listed<'_>) -> usize
         let h = leading(rest, bits);
         let (group, behind) = rest.split_at_mut(h);
         if 1 < group.len() {
-            rounds += carry(group, bits + 4, list);
+            let went = carry(group, bits + 4, list, at);
+            at = went.cursor;
+            rounds += went.rounds;
         }
         rest = behind;
     }
-    rounds
+    Went { cursor: at, rounds }
 }
 
 // Before the first round: the refusal that applies, or else the UIDs of the labels that the family lets answer.
@@ -82,11 +107,10 @@ pub fn walk(rack: &mut [u8], family: Family, list: &mut [u8]) -> Walked
         };
     }
     clear_rack(rack);
-    let mut to = Listed { bytes: list, at: 0 };
-    let rounds = carry(us.as_mut_slice(), 0, &mut to);
+    let went = carry(us.as_mut_slice(), 0, list, 0);
     Walked {
         number: 0,
-        labels: to.at / 8,
-        rounds,
+        labels: went.cursor / 8,
+        rounds: went.rounds,
     }
 }
