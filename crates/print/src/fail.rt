@@ -1,4 +1,6 @@
 // What went wrong, on standard error.
+ghost use Rattle.std.specs.Prelude.{◌≡◌, length, take};
+
 use crate::line::Line;
 use std::fmt::Write;
 use std::io;
@@ -7,7 +9,9 @@ use std::io::Print;
 const ROOM: usize = 256;
 
 // The system's words for an error without its number, which std writes behind them as ` (os error 2)`.
-fn before_number(text: &[u8]) -> &[u8] {
+fn before_number(text: &[u8]) -> &[u8]
+    ensures { result.now ≡ take (length result.now) text.now }
+{
     for i in (1..text.len()).rev() {
         if text[i] == b'(' {
             return &text[..i - 1];

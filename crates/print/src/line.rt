@@ -68,8 +68,13 @@ impl<const N: usize> Line<N> {
     pub fn put(&mut self, s: &[u8])
         ensures { self.new ≡ laid N self.old s.now }
     {
-        let room = s.len().min(N - self.at);
-        self.at = put_bytes(&mut self.bytes, self.at, s, room);
+        // Two arms, so that the compiler knows how long a literal is that has room.
+        let room = N - self.at;
+        if room < s.len() {
+            self.at = put_bytes(&mut self.bytes, self.at, s, room);
+        } else {
+            self.at = put_bytes(&mut self.bytes, self.at, s, s.len());
+        }
     }
 
     // A byte as two capitals.
@@ -126,11 +131,11 @@ impl<const N: usize> Line<N> {
 
     // A text between quotes.
     #[tactic(auto, using(crate::proofs::Lines::lines), unfolding(crate::specs::Quote::quoted_text))]
-    pub fn quoted(&mut self, s: &[u8])
-        ensures { self.new ≡ laid N self.old (quoted_text s.now) }
+    pub fn quoted(&mut self, text: &[u8])
+        ensures { self.new ≡ laid N self.old (quoted_text text.now) }
     {
         self.put(b"\"");
-        self.put(s);
+        self.put(text);
         self.put(b"\"");
     }
 
@@ -145,10 +150,10 @@ impl<const N: usize> Line<N> {
 
     // A text and a number behind it, in decimal.
     #[tactic(auto, using(crate::proofs::Lines::lines), unfolding(crate::specs::Named::word_number))]
-    pub fn word_number(&mut self, s: &[u8], n: u64)
-        ensures { self.new ≡ laid N self.old (word_number s.now n) }
+    pub fn word_number(&mut self, word: &[u8], n: u64)
+        ensures { self.new ≡ laid N self.old (word_number word.now n) }
     {
-        self.put(s);
+        self.put(word);
         self.decimal(n);
     }
 

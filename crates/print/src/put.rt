@@ -10,6 +10,9 @@ pub fn put_text(out: &mut [u8], at: usize, s: &[u8]) -> usize
     if out.len() <= at {
         return out.len();
     }
-    let room = s.len().min(out.len() - at);
-    put_bytes(out, at, s, room)
+    let room = out.len() - at;
+    if room < s.len() {
+        return put_bytes(out, at, s, room);
+    }
+    put_bytes(out, at, s, s.len())
 }
