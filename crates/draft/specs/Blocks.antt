@@ -3,9 +3,9 @@ use Rattle.std.specs.Prelude.{◌≡◌, not, ◌||◌, List, [], ℕ, zero, suc
 use Rattle.std.proofs.lemmas.List.Edits.{sets}
 use Rattle.print.specs.Ascii.{ascii}
 use Rattle.rack.specs.declared.tag.Kind.{Kind}
+use Rattle.text.specs.Hex.{blank_before}
 use Rattle.text.specs.Words.{is_blank, lowered}
 use Rattle.text.specs.Runs.{is_gap, hex_of}
-use Rattle.text.specs.RunsPlaces.{blank_before}
 use Rattle.text.specs.declared.hex.HexError.{HexError}
 use Rattle.text.specs.declared.hex.HexError.TheVariants.{Bad, Odd, Full}
 use Rattle.verbs.specs.declared.trouble.What.TheVariants as what

@@ -1,6 +1,6 @@
 // A line that is a block: its number, its bytes in hex or as a text in quotes, and `locked`.
 ghost use Rattle.std.specs.Prelude.{◌≡◌, length, replicate};
-ghost use Rattle.text.specs.RunsPlaces.{blank_before};
+ghost use Rattle.text.specs.Hex.{blank_before};
 ghost use Rattle.draft.specs.Bodies.{Drafts, block_size};
 ghost use Rattle.draft.specs.Blocks.{Lays, pairs_left, pair_place, stopped, hex_by, hexed, closed, quoted, data_from, finished, block_of, block_line};
 
@@ -47,7 +47,7 @@ fn place_of(s: &[u8], n: usize) -> usize
 }
 
 // Here and below a place of the whole line, and not the `Rest` from it on: what stands before it counts too, and what is wrong is told by its column.
-#[tactic(auto, unfolding(text::specs::RunsPlaces::blank_before))]
+#[tactic(auto, unfolding(text::specs::Hex::blank_before))]
 fn blank_before(line: &[u8], at: usize) -> bool
     ensures { result ≡ blank_before line.now at }
 {

@@ -1,2 +1,3 @@
 -- The laws of the numbers.
 pub mod FieldsUid
+pub mod ToldWays

@@ -1,3 +1,4 @@
 -- The laws of what a label does.
 pub mod StepFamily
 pub mod StepLocks
+pub mod StepOthers

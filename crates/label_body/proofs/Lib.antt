@@ -2,6 +2,7 @@
 pub mod LocksLaws
 pub mod BodyJudged
 pub mod FactsFine
+pub mod BodyOthers
 pub mod BodyRoom
 pub mod BodyStored
 pub mod AnswerLaid

@@ -1,10 +1,14 @@
 -- Turns become batches, and batches all that is handed over. Assumes nothing.
-use Rattle.std.proofs.Common.{◌≡◌, ℕ, ◌+◌, ◌/◌, ◌%◌, ◌^◌, ◌<◌, Bool, true, false, ltb, List, [], ◌++◌, length, refl, ap, ◌∙◌, arith, take_all, if◌then◌else◌}
+use Rattle.std.proofs.Common.{◌≡◌, ℕ, ◌+◌, ◌/◌, ◌%◌, ◌^◌, ◌<◌, Bool, true, false, ltb, List, [], ◌++◌, length, drop, refl, ap, ◌∙◌, arith, take_all, take_at, le-leb, if◌then◌else◌}
 use mathlib.Core.Logic.{⊎_elim}
 use lib.Seq.{length-take-le}
+use Rattle.frame.specs.Number.{part}
 use Rattle.frame.proofs.Bools.{below_or_not}
+use Rattle.frame.proofs.Puts.{sets_front}
 use Rattle.print.specs.Line.{laid}
+use Rattle.print.specs.Puts.{within, Puts}
 use Rattle.print.proofs.Lines.{laid_then, laid_new}
+use Rattle.print.proofs.Puts.{puts_fits}
 use Rattle.text.specs.declared.lines.Source.{Source}
 use Rattle.text.specs.declared.lines.Got.{Got}
 use Rattle.text.specs.Lines.{has_ended, next_of, is_found, Follows}
@@ -57,14 +61,23 @@ laid_more {out₁ = out₁} b room at l e s =
 
 -- ---- what is handed over
 
--- the text of a batch, where it does not fill the line: all of it stands there
-pub handed_whole : (s : List ℕ) {out₁ : List ℕ} → out₁ ≡ laid out_room [] s → length out₁ < out_room → out₁ ≡ s
-handed_whole s p h =
-    let q = p ∙ laid_new out_room s in
+-- the text of a batch, where it does not fill the line, whatever room that has: all of it stands there
+pub handed_whole : {n : ℕ} (s : List ℕ) {out₁ : List ℕ} → out₁ ≡ laid n [] s → length out₁ < n → out₁ ≡ s
+handed_whole {n} s p h =
+    let q = p ∙ laid_new n s in
     ⊎_elim
-    (λ l. let e = ap length q ∙ length-take-le out_room s (omega arith) in absurd (omega arith))
-    (λ l. q ∙ take_all out_room s (omega arith))
-    (below_or_not out_room (length s))
+    (λ l. let e = ap length q ∙ length-take-le n s (omega arith) in absurd (omega arith))
+    (λ l. q ∙ take_all n s (omega arith))
+    (below_or_not n (length s))
+
+-- and of a text laid into a buffer, where the place behind it is not the buffer's end: all of it stands in front of that place
+pub handed_part : {s out out₁ : List ℕ} {r : ℕ} → Puts s 0 out out₁ r → r < length out₁ → length out₁ ≡ length out → part 0 r out₁ ≡ s
+unfolding within
+handed_part {s} {out} {out₁} {r} p h e =
+    let f = puts_fits p (omega arith) in
+    let b : r ≡ length s = p.behind ∙ rw (le-leb (0 + length s) (length out) (omega arith)) (omega arith) in
+    let q : out₁ ≡ s ++ drop (length s) out = p.laid ∙ sets_front s out (omega arith) in
+    rw (b, q) (take_at s (drop (length s) out) (length s) refl)
 
 -- all that was handed over from stand a on, up to here
 pub record Told (quiet : Bool) (a b : Stand) : Type 0 where

@@ -7,7 +7,9 @@ use native.Mathlib.Omega.{arith}
 use borrow.Author.Tests.{le-leb, lt-leb}
 use lib.ListN.{length, take, drop, take-append-drop, length-append}
 use lib.Seq.{sets, set_out, length-sets, length-take-le, take_all}
+use Rattle.frame.specs.Choose.{gather}
 use Rattle.frame.proofs.Bools.{below_or_not}
+use Rattle.frame.proofs.Lists.{gather_none}
 use Rattle.frame.proofs.Puts.{sets_append}
 use Rattle.print.specs.Puts.{within, Puts}
 
@@ -115,3 +117,7 @@ module _ {s : List ℕ} {at : ℕ} {old new : List ℕ} {r : ℕ} (p : Puts s at
             ∙ within_add (length old) (at + length s) (length t)
             ∙ ap (within (length old)) e;
       }
+
+-- of f 0, f 1, .. the first none laid: what lays nothing lays these
+pub gathered_none : (f : ℕ → List ℕ) {at : ℕ} {old new : List ℕ} {r : ℕ} → Puts [] at old new r → Puts (gather 0 f) at old new r
+gathered_none f p = rw (gather_none f) p

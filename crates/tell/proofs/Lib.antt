@@ -4,4 +4,5 @@ pub mod BlockPlaces
 pub mod LineWidth
 pub mod CommandAsked
 pub mod CommandRead
+pub mod MeaningWays
 mod Samples

@@ -10,7 +10,8 @@ use lib.ListN.{length, take, drop, length-drop, take-append-drop}
 use lib.Seq.{length-take-le, take-take, drop-append-le, drop-length}
 use Rattle.text.proofs.WordsLead.{lead_append}
 use Rattle.text.specs.Words.{lead}
-use Rattle.text.specs.Lines.{no_line, in_line, newline_in, line_at, last_line, stopped_at, Passed, Behind, Brought, Whole, Last, TooLong}
+use Rattle.text.specs.Lines.{no_line, in_line, newline_in, line_at, last_line, stopped_at, Passed, Over, Behind, Brought, Whole, Last, TooLong}
+use Rattle.text.specs.declared.lines.Source.{Source}
 use Rattle.text.specs.declared.lines.Source.TheVariants.{Holding, Ended}
 use Rattle.text.specs.declared.lines.Reached.TheVariants.{Long, End}
 use Rattle.text.specs.declared.lines.Got.{Got}
@@ -103,6 +104,11 @@ module _ {n end : ℕ} {old buf : List ℕ} (r : Reading n old buf end) {g : Got
 
 -- ---- the rest of a line that was too long, as `pass` goes over it
 
+-- the input ended in it, as the source x says
+pub pass_ended : {new : List ℕ} {x : Source} {g : Got} → g ≡ no_line Long x → x ≡ Ended → Passed new g
+pass_ended f e = Over (f ∙ ap (no_line Long) e)
+
+-- a newline ended it
 pub pass_behind : {new : List ℕ} {g : Got} {at n : ℕ} → n ≤ length new → (newline_in new 0 n ≡ at) × (at < n)
     → g ≡ no_line Long (Holding (at + 1) n) → Passed new g
 pass_behind {n = n} h e f =

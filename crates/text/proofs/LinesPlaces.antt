@@ -1,14 +1,19 @@
--- Where a buffer's first newline is, as a search of the part finds it, and what is moved to its front. Assumes nothing.
-use Rattle.std.proofs.Common.{◌≡◌, ap, sym, ◌∙◌, ℕ, ◌+◌, ◌-◌, ◌≤◌, ◌<◌, arith, List, take, drop, length, ◌++◌, eqb}
-use Rattle.std.specs.Prelude.{Option, None, Some, position}
+-- Where a buffer's first newline is, as a search of the part finds it, what is moved to its front, and what is left at the end. Assumes nothing.
+use Rattle.std.proofs.Common.{◌≡◌, refl, ap, sym, ◌∙◌, ℕ, ◌+◌, ◌-◌, ◌≤◌, ◌<◌, arith, List, take, drop, length, ◌++◌, eqb}
+use Rattle.std.specs.Prelude.{Bool, true, false, Option, None, Some, position}
 use Rattle.std.proofs.lemmas.List.{drop-take}
 use Rattle.std.proofs.Math.Seq.{sets-eq}
 use Rattle.std.specs.List.{copy_within}
+use borrow.Author.Tests.{eq-eqb, ne_eqb}
 use Rattle.frame.specs.Number.{part}
 use Rattle.frame.proofs.Stores.{length_part}
 use Rattle.text.proofs.WordsLead.{first_found, first_missing}
 use Rattle.text.specs.Words.{lead}
-use Rattle.text.specs.Lines.{in_line, newline_in, to_front}
+use Rattle.text.specs.Lines.{no_line, in_line, newline_in, last_line, stopped_at, to_front}
+use Rattle.text.specs.declared.lines.Source.{Source}
+use Rattle.text.specs.declared.lines.Source.TheVariants.{Ended}
+use Rattle.text.specs.declared.lines.Reached.TheVariants.{Line, End}
+use Rattle.text.specs.declared.lines.Got.{Got}
 
 -- r is the place of the first newline in the part
 module _ (s : List ℕ) (from to : ℕ) (h : from ≤ to) (l : to ≤ length s) (r : Option ℕ) (e : r ≡ position (λ c. eqb c 10) (part from (to - from) s)) where
@@ -47,3 +52,25 @@ front_copied s start end h l =
     let k : length (part start (end - start) s) ≡ end - start = length_part start (end - start) s (omega arith) in
     let i : 0 + length (part start (end - start) s) ≤ length s = omega arith in
     sym (sets-eq (part start (end - start) s) s 0 i ∙ ap (λ (n : ℕ). part start (end - start) s ++ drop (0 + n) s) k)
+
+-- ---- no more comes, as the source x says: no line, or the last one, by what is left and by whether the last read was fine
+
+module _ (to : ℕ) {x : Source} (e : x ≡ Ended) where
+  pub none_left : {g : Got} → g ≡ no_line End x → g ≡ no_line End Ended
+  none_left f = f ∙ ap (no_line End) e
+
+  pub last_none : {g : Got} → to ≡ 0 → g ≡ no_line End x → g ≡ last_line to
+  unfolding last_line
+  last_none h f = none_left f ∙ sym (rw (eq-eqb to 0 h) refl)
+
+  pub last_there : (to ≡ 0 → ⊥) → record { reached = Line 0 to; source = x } ≡ last_line to
+  unfolding last_line
+  last_there h = ap (λ (y : Source). record { reached = Line 0 to; source = y }) e ∙ sym (rw (ne_eqb to 0 h) refl)
+
+  pub stopped_failed : {g : Got} (fine : Bool) → fine ≡ false → g ≡ no_line End x → g ≡ stopped_at to fine
+  unfolding stopped_at
+  stopped_failed fine h f = none_left f ∙ sym (rw h refl)
+
+pub stopped_fine : {g : Got} (to : ℕ) (fine : Bool) → fine ≡ true → g ≡ last_line to → g ≡ stopped_at to fine
+unfolding stopped_at
+stopped_fine to fine h f = f ∙ sym (rw h refl)

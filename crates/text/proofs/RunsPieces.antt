@@ -10,10 +10,10 @@ use lib.ListN.{length, get_or, drop, length-drop}
 use lib.Seq.{get_or-drop}
 use Rattle.frame.proofs.Bools.{off_and}
 use Rattle.frame.proofs.Lists.{drop_head}
-use Rattle.text.specs.Hex.{value_of}
+use Rattle.text.specs.Hex.{value_of, blank_before}
 use Rattle.text.specs.Words.{is_blank}
 use Rattle.text.specs.Runs.{is_gap, second_digit, unread, first_digit, piece_of}
-use Rattle.text.specs.RunsPlaces.{blank_before, piece_at}
+use Rattle.text.specs.RunsPlaces.{piece_at}
 use Rattle.text.specs.declared.hex.HexError.TheVariants.{Bad, Odd, Full}
 
 -- ---- a place behind another

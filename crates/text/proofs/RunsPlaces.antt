@@ -12,9 +12,10 @@ use Rattle.frame.proofs.Puts.{one, none}
 use Rattle.frame.proofs.Bools.{if_either, if_both}
 use Rattle.text.proofs.RunsPassed.{gap_none, opening_long, opening_solid, passed_none}
 use Rattle.text.proofs.RunsPieces.{behind, Whole, byte_whole}
+use Rattle.text.specs.Hex.{blank_before}
 use Rattle.text.specs.Words.{is_blank}
 use Rattle.text.specs.Runs.{is_gap, opening, Piece, piece_of, HexRead, stop, onward, read_hex, hex_of}
-use Rattle.text.specs.RunsPlaces.{blank_before, passed_at, piece_at}
+use Rattle.text.specs.RunsPlaces.{passed_at, piece_at}
 use Rattle.std.specs.Prelude.{None, Some, Result, Ok, Err}
 use Rattle.text.specs.declared.hex.HexError.{HexError}
 

@@ -1,11 +1,7 @@
 -- Not for the reader of the paper: for the contracts of private functions alone, which see a run of hex by its places. Assumes nothing.
-use Rattle.std.specs.Prelude.{Bool, not, ◌&&◌, List, ℕ, ◌-◌, eqb, get_or, drop, if◌then◌else◌}
-use Rattle.text.specs.Words.{is_blank}
+use Rattle.std.specs.Prelude.{List, ℕ, get_or, drop, if◌then◌else◌}
+use Rattle.text.specs.Hex.{blank_before}
 use Rattle.text.specs.Runs.{is_gap, opening, Piece, piece_of}
-
--- a blank stands before a place
-unfoldable pub blank_before : List ℕ → ℕ → Bool
-blank_before s at = not (eqb at 0) && is_blank (get_or s (at - 1) 0)
 
 -- how many bytes are passed over at a place
 unfoldable pub passed_at : List ℕ → ℕ → ℕ

@@ -1,9 +1,9 @@
 // Hex digits read as bytes.
 ghost use Rattle.std.specs.Prelude.{◌≡◌, ◌+◌, ◌*◌, ◌<◌, ◌≤◌, length, get_or, drop, is_some, IfSome, IfOk};
 ghost use Rattle.std.proofs.lemmas.List.Edits.{sets};
-ghost use Rattle.text.specs.Hex.{value_of};
+ghost use Rattle.text.specs.Hex.{value_of, blank_before};
 ghost use Rattle.text.specs.Runs.{is_gap, opening, hex_of};
-ghost use Rattle.text.specs.RunsPlaces.{blank_before, passed_at, piece_at};
+ghost use Rattle.text.specs.RunsPlaces.{passed_at, piece_at};
 
 use crate::words::is_blank;
 
@@ -56,7 +56,7 @@ fn opens(s: &[u8], at: usize) -> bool
 }
 
 // Whether a blank stands before a place.
-#[tactic(auto, unfolding(crate::specs::RunsPlaces::blank_before))]
+#[tactic(auto, unfolding(crate::specs::Hex::blank_before))]
 pub fn blank_before(s: &[u8], at: usize) -> bool
     requires { at ≤ length s.now }
     ensures { result ≡ blank_before s.now at }

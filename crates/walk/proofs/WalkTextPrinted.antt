@@ -2,9 +2,11 @@
 use mathlib.Core.Path.{◌≡◌, ap, ap₂, ◌∙◌}
 use mathlib.Core.Logic.{⊎_elim}
 use mathlib.Core.List.{List, []}
-use Prim.Native.Nat.{ℕ, ◌*◌, ◌^◌, ◌≤◌, ◌<◌}
+use Prim.Native.Nat.{ℕ, ◌+◌, ◌*◌, ◌^◌, ◌≤◌, ◌<◌}
 use native.Mathlib.Omega.{arith}
+use borrow.Author.Tests.{le-leb}
 use lib.ListN.{length, replicate}
+use lib.Seq.{sets}
 use Rattle.frame.proofs.Bools.{same_or_not}
 use Rattle.request.specs.declared.label.Family.{Family}
 use Rattle.inventory.specs.declared.walk.Walked.{Walked}
@@ -13,7 +15,9 @@ use Rattle.inventory.specs.Promise.{Promise}
 use Rattle.inventory.proofs.Promise.{accepted, walk_carried, walk_refused}
 use Rattle.inventory.proofs.WalkUids.{uids_few}
 use Rattle.print.specs.Line.{laid}
+use Rattle.print.specs.Puts.{within, Puts}
 use Rattle.print.proofs.Lines.{laid_whole}
+use Rattle.print.proofs.Puts.{puts_length}
 use Rattle.walk.specs.WalkText.{walk_text, printed}
 use Rattle.walk.proofs.WalkTextPuts.{walk_short}
 
@@ -38,3 +42,16 @@ unfolding printed
 printed_all family rack {w} {list} {line} e f a b l m p =
     let s = walk_short w list a b (omega arith) in
     p ∙ laid_whole 1117 (walk_text w list) (omega arith) ∙ ap₂ walk_text e f
+
+-- and laid into a buffer with room for as many bytes, it stands at the front, and the place behind it is its length
+pub printed_part : (family : Family) (rack out : List ℕ) {w : Walked} {list : List ℕ} {n : ℕ} {fin : List ℕ} → w ≡ (walk_of rack family (replicate 512 0)).report
+    → list ≡ (walk_of rack family (replicate 512 0)).list → w.number < 256 → w.rounds < 2 ^ 64 → 8 * w.labels ≤ 512 → length list ≡ 512 → 1117 ≤ length out
+    → Puts (walk_text w list) 0 out fin n
+    → (n ≡ length (printed family rack)) × ((fin ≡ sets out 0 (printed family rack)) × (n ≤ length fin))
+unfolding printed within
+printed_part family rack out {w} {list} {n} {fin} e f a b l m o p =
+    let t : walk_text w list ≡ walk_text (walk_of rack family (replicate 512 0)).report (walk_of rack family (replicate 512 0)).list = ap₂ walk_text e f in
+    let s = walk_short w list a b (omega arith) in
+    let z : n ≡ length (walk_text w list) = p.behind ∙ rw (le-leb (0 + length (walk_text w list)) (length out) (omega arith)) (omega arith) in
+    let y = puts_length p in
+    (z ∙ ap length t, (p.laid ∙ ap (sets out 0) t, omega arith))
