@@ -5,7 +5,7 @@ use Rattle.std.specs.Prelude.{if◌then◌else◌, is_ok, Ok, Err}
 use mathlib.Core.Path.{◌≡◌, refl, ap, sym, ◌∙◌}
 use mathlib.Core.Bool.{Bool, true, false, not, ◌&&◌}
 use mathlib.Core.List.{List, [], ◌∷◌}
-use Prim.Native.Nat.{ℕ, suc, ◌≤◌, ◌<◌}
+use Prim.Native.Nat.{ℕ, suc, ◌≤◌}
 use native.Mathlib.Omega.{arith}
 use borrow.Author.Tests.{eq-eqb, ne_eqb, eqb-true, leb-true, ltb-false, not-false}
 use lib.Dec.{eqb, ltb, leb}
@@ -31,7 +31,7 @@ use Rattle.rack.specs.declared.tag.Said.{Said}
 use Rattle.rack.specs.declared.tag.Kind.{Kind}
 use Rattle.rack.specs.declared.tag.Kind.TheVariants.{Label, Chip, Other}
 use Rattle.rack.specs.File.{count_of, kind_at, length_at, offset_at, start_of, body_at, body_rules, verdict_of}
-use Rattle.rack.specs.Facts.{RackFine, TagFine, Sayable, body_of}
+use Rattle.rack.specs.Facts.{RackFine, TagFine, Tellable, body_of}
 use Rattle.rack.specs.Tag.{Event, carrying, aired, next_body, said_by, frame_of}
 use Rattle.rack.proofs.FileVerdict.{rack_fine}
 use Rattle.rack.proofs.FileRebuilt.{tag_fine}
@@ -39,7 +39,7 @@ use Rattle.rack.proofs.TagKinds.{label_sized, frame_same, sayable_next, signal_s
 use Rattle.event.specs.declared.call.Report.{Report}
 use Rattle.event.specs.Event.{answer, answers, next_rack, opened, length_alone, played, least, refusal_of, event_of, Replied}
 use Rattle.event.specs.Pass.{AloneBy}
-use Rattle.event.proofs.EventNext.{next_count, next_offset, next_start, body_next, next_fine}
+use Rattle.event.proofs.EventNext.{next_length, next_length_at, next_offset, next_start, body_next, next_fine}
 
 -- no refusal has the number 0
 pub refusal_some : (e : Refusal) → refusal_number e ≡ 0 → ⊥
@@ -147,12 +147,24 @@ module _ (r : List ℕ) (event : Event) (ds : List ℕ) (ok : RackFine r) (w : �
   fits_told bs h = rw frame_told (omega (arith, h, short_told bs))
 
   -- what the answer's writer needs of the next rack
-  pub there_still : w < count_of xs
-  there_still = omega (arith, alone.below, ap count_of x, next_count r event ds ok)
-
-  pub says_still : Sayable said (body_of xs w)
-  says_still =
-      rw (body_told, alone.says) (sayable_next (kind_at r w) event (get_or ds w 0) (body_at r w) (tag_fine r ok w alone.below))
+  pub tellable : Tellable xs w said
+  tellable =
+      let there = alone.below in
+      let l : length xs ≡ length r = ap length x ∙ next_length r event ds ok in
+      record {
+        few = omega (arith, ok.head.few, there);
+        in_file = omega (arith, (ok.entry w there).in_file, l);
+        inside =
+            omega (
+              arith,
+              (ok.body w there).in_file,
+              (ok.entry w there).placed,
+              ap (λ (y : List ℕ). offset_at y w) x ∙ next_offset r event ds ok w there,
+              ap (λ (y : List ℕ). length_at y w) x ∙ next_length_at r event ds ok w there,
+              l,
+            );
+        says = rw (body_told, alone.says) (sayable_next (kind_at r w) event (get_or ds w 0) (body_at r w) (tag_fine r ok w there));
+      }
 
 -- ---- what event shows
 module _ (r : List ℕ) (number : ℕ) (f ds out : List ℕ) where

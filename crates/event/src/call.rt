@@ -1,15 +1,15 @@
 // The event.
-ghost use Rattle.std.specs.Prelude.{◌≡◌, ◌≤◌, ◌<◌, length, MatchResult};
+ghost use Rattle.std.specs.Prelude.{◌≡◌, ◌≤◌, length, MatchResult};
 ghost use Rattle.std.proofs.lemmas.List.Edits.{sets};
 ghost use Rattle.frame.specs.Refusal.{refusal_number};
 ghost use Rattle.rack.specs.File.{count_of};
-ghost use Rattle.rack.specs.Facts.{RackFine, Sayable, body_of};
+ghost use Rattle.rack.specs.Facts.{RackFine, Tellable, body_of};
 ghost use Rattle.rack.specs.Tag.{carrying, frame_of};
 ghost use Rattle.event.specs.Event.{next_rack, refusal_of, Replied};
 ghost use Rattle.event.specs.Pass.{PassOf};
 
 use frame::refusal::Refusal;
-use rack::file::{entry_of, judge, kind_of, length_of};
+use rack::file::{body_of, entry_of, judge, kind_of, length_of};
 use rack::tag::{Said, speaking, step_tag, write_said};
 use rack::whole::Rack;
 use request::label::data_of;
@@ -112,13 +112,12 @@ fn admit(rack: &Rack, number: u8, draws: usize, room: usize) -> Result<(), Refus
 
 // The frame of an answer opens the answer buffer.
 fn tell(rack: &Rack, by: Spoken, answer: &mut [u8]) -> usize
-    requires there { by.who < count_of rack.now }
-    requires says { Sayable by.said (body_of rack.now by.who) }
+    requires tellable { Tellable rack.now by.who by.said }
     requires room { length (frame_of by.said (body_of rack.now by.who)) ≤ length answer.old }
     ensures { (result ≡ length (frame_of by.said (body_of rack.now by.who)))
         × (answer.new ≡ sets answer.old 0 (frame_of by.said (body_of rack.now by.who))) }
 {
-    write_said(by.said, rack.body(by.who), answer)
+    write_said(by.said, body_of(rack.bytes(), by.who), answer)
 }
 
 // Plays an event on a rack that is known to be well-formed. `RackFine` is asked where a rack is written, and no type has it there: it would have to be

@@ -2,7 +2,7 @@
 use Rattle.std.proofs.Common.{rules, ◌≡◌}
 use Rattle.frame.specs.Number.{Bytes}
 use Rattle.rack.specs.Tag.{carrying, aired}
-use Rattle.event.proofs.EventOutcomes.{playable, event_is, rack_left, there_still, says_still, shows_refused, shows_silent, fits_told, shows_alone}
+use Rattle.event.proofs.EventOutcomes.{playable, event_is, rack_left, tellable, shows_refused, shows_silent, fits_told, shows_alone}
 use Rattle.event.proofs.call.event_on.Goals as goal
 
 pub returns-in-Err : goal.returns-in-Err
@@ -26,8 +26,7 @@ tell-requires c =
     let x = c.play-pass.ensures.rack_after in
     rw c.of-in-Some.ensures
     (record {
-      there = there_still _ _ _ c.requires _ _ _ by.1 x;
-      says = says_still _ _ _ c.requires _ _ _ by.1 x;
+      tellable = tellable _ _ _ c.requires _ _ _ by.1 x;
       room = fits_told _ _ _ c.requires _ _ _ by.1 x bytes may.space;
     })
 
