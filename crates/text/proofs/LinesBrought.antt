@@ -1,6 +1,6 @@
 -- Reads behind the bytes of a buffer, as `fill` goes over them: none of those behind the first n is a newline yet. Assumes nothing.
 use mathlib.Core.Path.{◌≡◌, refl, ap, sym, ◌∙◌}
-use mathlib.Core.Bool.{true, false}
+use mathlib.Core.Bool.{Bool}
 use mathlib.Core.List.{List, ◌++◌}
 use Prim.Native.Nat.{ℕ, ◌+◌, ◌-◌, ◌≤◌, ◌<◌}
 use native.Mathlib.Nat.{add-zero}
@@ -10,10 +10,10 @@ use lib.ListN.{length, take, drop, length-drop, take-append-drop}
 use lib.Seq.{length-take-le, take-take, drop-append-le, drop-length}
 use Rattle.text.proofs.WordsLead.{lead_append}
 use Rattle.text.specs.Words.{lead}
-use Rattle.text.specs.Lines.{no_line, in_line, newline_in, line_at, last_line, stopped_at, Passed, Over, Behind, Brought, Whole, Last, TooLong}
+use Rattle.text.specs.Lines.{ended_at, no_line, in_line, newline_in, line_at, stopped_at, Passed, Over, Behind, Brought, Whole, Last, TooLong}
 use Rattle.text.specs.declared.lines.Source.{Source}
-use Rattle.text.specs.declared.lines.Source.TheVariants.{Holding, Ended}
-use Rattle.text.specs.declared.lines.Reached.TheVariants.{Long, End}
+use Rattle.text.specs.declared.lines.Source.TheVariants.{Holding}
+use Rattle.text.specs.declared.lines.Reached.TheVariants.{Long}
 use Rattle.text.specs.declared.lines.Got.{Got}
 
 -- no newline up to `end`: the first up to `to` is the first from there on
@@ -92,20 +92,13 @@ module _ {n end : ℕ} {old buf : List ℕ} (r : Reading n old buf end) {to : �
       Whole to w r.kept (omega arith) (k ∙ ap (λ (i : ℕ). line_at buf 0 i (Holding (i + 1) to)) b)
 
 -- no more comes
-module _ {n end : ℕ} {old buf : List ℕ} (r : Reading n old buf end) {g : Got} where
-  pub brought_last : g ≡ last_line end → Brought n old buf g
-  unfolding stopped_at
-  brought_last e = Last end true r.within r.kept r.none e
-
-  -- a read failed
-  pub brought_failed : g ≡ no_line End Ended → Brought n old buf g
-  unfolding stopped_at
-  brought_failed e = Last end false r.within r.kept r.none e
+pub brought_last : {n end : ℕ} {old buf : List ℕ} {g : Got} (fine : Bool) → Reading n old buf end → g ≡ stopped_at end fine → Brought n old buf g
+brought_last {end = end} fine r e = Last end fine r.within r.kept r.none e
 
 -- ---- the rest of a line that was too long, as `pass` goes over it
 
 -- the input ended in it, as the source x says
-pub pass_ended : {new : List ℕ} {x : Source} {g : Got} → g ≡ no_line Long x → x ≡ Ended → Passed new g
+pub pass_ended : {new : List ℕ} {x : Source} {g : Got} → g ≡ no_line Long x → x ≡ ended_at → Passed new g
 pass_ended f e = Over (f ∙ ap (no_line Long) e)
 
 -- a newline ended it

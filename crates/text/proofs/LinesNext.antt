@@ -1,5 +1,5 @@
 -- The ways out of `next` and `at_hand`: what their tests told, and what their callees answered. Assumes nothing.
-use mathlib.Core.Path.{◌≡◌, refl, sym, ◌∙◌}
+use mathlib.Core.Path.{◌≡◌, refl, ap, sym, ◌∙◌}
 use mathlib.Core.Bool.{Bool, true}
 use mathlib.Core.List.{List}
 use Prim.Native.Nat.{ℕ, ◌+◌, ◌-◌, ◌≤◌, ◌<◌}
@@ -8,9 +8,9 @@ use lib.Dec.{eqb}
 use native.Mathlib.Omega.{arith}
 use Rattle.std.specs.Prelude.{Option, None, Some, is_some, position}
 use Rattle.frame.specs.Number.{part}
-use Rattle.text.proofs.LinesPlaces.{newline_found, newline_none}
+use Rattle.text.proofs.LinesPlaces.{newline_found, newline_none, none_left}
 use lib.ListN.{length}
-use Rattle.text.specs.Lines.{no_line, newline_in, line_at, to_front, Found, next_of, is_found, Brought, Follows}
+use Rattle.text.specs.Lines.{ended_at, no_line, newline_in, line_at, to_front, Found, next_of, is_found, Brought, Follows}
 use Rattle.text.specs.declared.lines.Source.{Source}
 use Rattle.text.specs.declared.lines.Source.TheVariants.{Holding, Ended}
 use Rattle.text.specs.declared.lines.Reached.TheVariants.{End}
@@ -20,19 +20,19 @@ module _ (s : Source) (buf : List ℕ) where
   found : {g y : Got} → next_of s buf ≡ Found y → g ≡ y → Follows (next_of s buf) buf buf g
   found e f = rw e (f, refl)
 
-  pub next_done : {g : Got} → s ≡ Ended → g ≡ no_line End Ended → Follows (next_of s buf) buf buf g
+  pub next_done : {start end : ℕ} {g : Got} → s ≡ Ended start end → g ≡ no_line End s → Follows (next_of s buf) buf buf g
   unfolding next_of
-  next_done h f = found (rw h refl) f
+  next_done h f = found (rw h refl) (f ∙ ap (no_line End) h)
 
   module _ {start end : ℕ} (h : s ≡ Holding start end) where
-    pub next_short : {g : Got} → length buf < end → g ≡ no_line End Ended → Follows (next_of s buf) buf buf g
+    pub next_short : {x : Source} {g : Got} → length buf < end → x ≡ ended_at → g ≡ no_line End x → Follows (next_of s buf) buf buf g
     unfolding next_of
-    next_short l f = found (rw (h, lt-ltb (length buf) end l) refl) f
+    next_short l e f = found (rw (h, lt-ltb (length buf) end l) refl) (none_left end e f)
 
     module _ (l : end ≤ length buf) where
-      pub next_crossed : {g : Got} → end < start → g ≡ no_line End Ended → Follows (next_of s buf) buf buf g
+      pub next_crossed : {x : Source} {g : Got} → end < start → x ≡ ended_at → g ≡ no_line End x → Follows (next_of s buf) buf buf g
       unfolding next_of
-      next_crossed k f = found (rw (h, le-ltb (length buf) end l, lt-ltb end start k) refl) f
+      next_crossed k e f = found (rw (h, le-ltb (length buf) end l, lt-ltb end start k) refl) (none_left end e f)
 
       module _ (k : start ≤ end) where
         pub next_line : {at : ℕ} {g : Got} → (newline_in buf start end ≡ at) × (at < end) → g ≡ line_at buf start at (Holding (at + 1) end)
@@ -50,7 +50,7 @@ module _ (s : Source) (buf : List ℕ) where
 -- ---- whether a read is needed
 
 module _ (s : Source) (buf : List ℕ) where
-  pub hand_done : s ≡ Ended → true ≡ is_found (next_of s buf)
+  pub hand_done : {start end : ℕ} → s ≡ Ended start end → true ≡ is_found (next_of s buf)
   unfolding next_of
   hand_done h = sym (rw h refl)
 

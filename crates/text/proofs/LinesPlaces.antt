@@ -9,9 +9,8 @@ use Rattle.frame.specs.Number.{part}
 use Rattle.frame.proofs.Stores.{length_part}
 use Rattle.text.proofs.WordsLead.{first_found, first_missing}
 use Rattle.text.specs.Words.{lead}
-use Rattle.text.specs.Lines.{no_line, in_line, newline_in, last_line, stopped_at, to_front}
+use Rattle.text.specs.Lines.{no_line, ended_at, in_line, newline_in, last_line, stopped_at, to_front}
 use Rattle.text.specs.declared.lines.Source.{Source}
-use Rattle.text.specs.declared.lines.Source.TheVariants.{Ended}
 use Rattle.text.specs.declared.lines.Reached.TheVariants.{Line, End}
 use Rattle.text.specs.declared.lines.Got.{Got}
 
@@ -55,8 +54,8 @@ front_copied s start end h l =
 
 -- ---- no more comes, as the source x says: no line, or the last one, by what is left and by whether the last read was fine
 
-module _ (to : ℕ) {x : Source} (e : x ≡ Ended) where
-  pub none_left : {g : Got} → g ≡ no_line End x → g ≡ no_line End Ended
+module _ (to : ℕ) {x : Source} (e : x ≡ ended_at) where
+  pub none_left : {g : Got} → g ≡ no_line End x → g ≡ no_line End ended_at
   none_left f = f ∙ ap (no_line End) e
 
   pub last_none : {g : Got} → to ≡ 0 → g ≡ no_line End x → g ≡ last_line to

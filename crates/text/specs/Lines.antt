@@ -24,7 +24,11 @@ is_end End = true
 -- nothing more comes
 abbrev pub has_ended : Source → Bool
 has_ended (Holding start end) = false
-has_ended Ended = true
+has_ended (Ended start end) = true
+
+-- where the reading stands at the input's end
+abbrev pub ended_at : Source
+ended_at = Ended 0 0
 
 -- ---- what is found
 
@@ -49,11 +53,11 @@ line_at s from to source = record { reached = Line from (line_end s from to); so
 
 -- the last line, which no newline ends, unless nothing is left
 unfoldable pub last_line : ℕ → Got
-last_line to = if eqb to 0 then no_line End Ended else record { reached = Line 0 to; source = Ended }
+last_line to = if eqb to 0 then no_line End ended_at else record { reached = Line 0 to; source = ended_at }
 
 -- no more comes: what stood before a read that failed is no line
 unfoldable pub stopped_at : ℕ → Bool → Got
-stopped_at to fine = if fine then last_line to else no_line End Ended
+stopped_at to fine = if fine then last_line to else no_line End ended_at
 
 -- ---- the next line
 
@@ -67,10 +71,10 @@ pub data Next : Type 0 where
   Wanting : ℕ → List ℕ → Next
 
 unfoldable pub next_of : Source → List ℕ → Next
-next_of Ended buf = Found (no_line End Ended)
+next_of (Ended start end) buf = Found (no_line End (Ended start end))
 next_of (Holding start end) buf =
-    if ltb (length buf) end then Found (no_line End Ended)
-    else if ltb end start then Found (no_line End Ended)
+    if ltb (length buf) end then Found (no_line End ended_at)
+    else if ltb end start then Found (no_line End ended_at)
     else
     let at = newline_in buf start end in
     if ltb at end then Found (line_at buf start at (Holding (at + 1) end))
@@ -83,7 +87,7 @@ is_found (Wanting n front) = false
 
 -- where the reading stands behind a line that was too long: at the input's end, or behind the newline, which is among the m bytes of the last read
 pub data Passed (new : List ℕ) (g : Got) : Type 0 where
-  Over : g ≡ no_line Long Ended → Passed new g
+  Over : g ≡ no_line Long ended_at → Passed new g
   Behind : (m : ℕ) → m ≤ length new → newline_in new 0 m < m → g ≡ no_line Long (Holding (newline_in new 0 m + 1) m) → Passed new g
 
 -- reads may bring any bytes behind the first n, which stay; what is found is told by the buffer that they leave

@@ -4,17 +4,17 @@
 // bytes as the buffer has, or more, is too long, and is passed over to its newline.
 ghost use Rattle.std.specs.Prelude.{◌≡◌, ◌==◌, ◌+◌, ◌-◌, ◌≤◌, ◌<◌, length, position};
 ghost use Rattle.text.specs.declared.lines.Source.TheVariants.{Holding};
-ghost use Rattle.text.specs.Lines.{Inside, is_end, has_ended, no_line, line_end, line_at, last_line, to_front};
+ghost use Rattle.text.specs.Lines.{Inside, is_end, has_ended, ended_at, no_line, line_end, line_at, last_line, to_front};
 ghost use Rattle.text.specs.Lines.{next_of, is_found, Passed, Brought, Follows};
 
 use crate::file::read_part;
 use std::io::Read;
 
-// Where the reading stands: at buf[start..end], which was read and not handed out; or the input has ended.
+// Where the reading stands: at buf[start..end], which was read and not handed out; or the input has ended, and the places say nothing any more.
 #[derive(Clone, Copy, PartialEq, Eq)]
 pub enum Source {
     Holding(usize, usize),
-    Ended,
+    Ended(usize, usize),
 }
 
 // How a read of a line ended: at a line, with its places, buf[from..to], till the next call; at a line that was too long, now passed; at the end of
@@ -43,7 +43,7 @@ pub fn is_end(reached: Reached) -> bool
 pub fn has_ended(source: Source) -> bool
     ensures { result ≡ has_ended source }
 {
-    matches!(source, Source::Ended)
+    matches!(source, Source::Ended(_, _))
 }
 
 // The source of a reader of which nothing was read yet.
@@ -53,6 +53,12 @@ pub fn source_of() -> Source
     Source::Holding(0, 0)
 }
 
+fn ended() -> Source
+    ensures { result ≡ ended_at }
+{
+    Source::Ended(0, 0)
+}
+
 // The next line of a source that was used with this reader and this buffer only, which has room for a byte. It reads until a line is whole or the
 // input has ended; a read that fails ends the input, and its cause is written to standard error.
 pub fn next<R: Read>(rt: &HostRuntime, reader: &mut R, s: Source, buf: &mut [u8]) -> Got
@@ -60,10 +66,10 @@ pub fn next<R: Read>(rt: &HostRuntime, reader: &mut R, s: Source, buf: &mut [u8]
     ensures follows { Follows (next_of s buf.old) buf.old buf.new result }
 {
     let Source::Holding(start, end) = s else {
-        return no_line(Reached::End, Source::Ended);
+        return no_line(Reached::End, s);
     };
     if buf.len() < end || end < start {
-        return no_line(Reached::End, Source::Ended);
+        return no_line(Reached::End, ended());
     }
     match newline(&buf[start..end]) {
         Some(n) => line(buf, start, start + n, end),
@@ -137,11 +143,11 @@ fn last(to: usize) -> Got
     ensures value { result ≡ last_line to }
 {
     if to == 0 {
-        return no_line(Reached::End, Source::Ended);
+        return no_line(Reached::End, ended());
     }
     Got {
         reached: Reached::Line(0, to),
-        source: Source::Ended,
+        source: ended(),
     }
 }
 
@@ -168,7 +174,7 @@ fn fill<R: Read>(rt: &HostRuntime, reader: &mut R, n: usize, buf: &mut [u8]) -> 
     // Not a `for`: a turn adds as many as its read brought.
     while end < buf.len() {
         let Some(more) = read_part(rt, reader, b"input", &mut buf[end..]) else {
-            return no_line(Reached::End, Source::Ended);
+            return no_line(Reached::End, ended());
         };
         if more == 0 {
             return last(end);
@@ -195,5 +201,5 @@ fn pass<R: Read>(rt: &HostRuntime, reader: &mut R, buf: &mut [u8]) -> Got
             return no_line(Reached::Long, Source::Holding(at + 1, n));
         }
     }
-    no_line(Reached::Long, Source::Ended)
+    no_line(Reached::Long, ended())
 }

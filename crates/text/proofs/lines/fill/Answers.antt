@@ -1,7 +1,7 @@
 -- Each way out, and each turn, is a law of LinesBrought. Assumes nothing.
-use Rattle.std.proofs.Common.{length, arith, ◌+◌, ◌-◌}
-use Rattle.text.proofs.LinesPlaces.{newline_found, newline_none}
-use Rattle.text.proofs.LinesBrought.{reading_first, reading_read, read_within, reading_on, brought_line, brought_last, brought_failed, brought_long}
+use Rattle.std.proofs.Common.{length, arith, ◌+◌, ◌-◌, refl, true, false}
+use Rattle.text.proofs.LinesPlaces.{newline_found, newline_none, stopped_failed, stopped_fine}
+use Rattle.text.proofs.LinesBrought.{reading_first, reading_read, read_within, reading_on, brought_line, brought_last, brought_long}
 use borrow.Rule.Slice.PartMut.{put_mid}
 use Rattle.text.proofs.lines.fill.Goals as goal
 
@@ -11,12 +11,14 @@ loop-end-init g c = let a = c.args in reading_first a.n a.buf.now (omega arith)
 pub returns-in_default-clause-brought : goal.returns-in_default-clause-brought
 returns-in_default-clause-brought g c =
     let l = c.loop-end in
-    brought_failed (reading_read (length l.buf - l.end) c.read_part.new.part l.invariant c.read_part.auto.part) c.no_line.ensures
+    brought_last false (reading_read (length l.buf - l.end) c.read_part.new.part l.invariant c.read_part.auto.part)
+    (stopped_failed l.end c.ended.ensures false refl c.no_line.ensures)
 
 pub returns-then-more-eq0-clause-brought : goal.returns-then-more-eq0-clause-brought
 returns-then-more-eq0-clause-brought g c =
     let l = c.loop-end in
-    brought_last (reading_read (length l.buf - l.end) c.read_part.new.part l.invariant c.read_part.auto.part) c.last.ensures.value
+    brought_last true (reading_read (length l.buf - l.end) c.read_part.new.part l.invariant c.read_part.auto.part)
+    (stopped_fine l.end true refl c.last.ensures.value)
 
 pub returns-in-Some-newline-clause-brought : goal.returns-in-Some-newline-clause-brought
 returns-in-Some-newline-clause-brought g c =

@@ -11,9 +11,9 @@ pub returns-then-buf-end-clause-follows : goal.returns-then-buf-end-clause-follo
 returns-then-buf-end-clause-follows g c =
     let a = c.args in
     elim c.then-buf-end.branch [
-      | then-buf-end-via-then-buf-end w ↦ next_short a.s a.buf.now c.in-Holding.is w.if-buf-end.true c.no_line-then-buf-end.ensures
+      | then-buf-end-via-then-buf-end w ↦ next_short a.s a.buf.now c.in-Holding.is w.if-buf-end.true c.ended.ensures c.no_line-then-buf-end.ensures
       | then-buf-end-via-else-buf-end+then-end-start w ↦
-          next_crossed a.s a.buf.now c.in-Holding.is w.if-buf-end.false w.if-end-start.true c.no_line-then-buf-end.ensures
+          next_crossed a.s a.buf.now c.in-Holding.is w.if-buf-end.false w.if-end-start.true c.ended.ensures c.no_line-then-buf-end.ensures
     ]
 
 pub returns-in-Some-clause-follows : goal.returns-in-Some-clause-follows
