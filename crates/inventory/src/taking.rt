@@ -1,7 +1,8 @@
 // The UIDs of the labels that take part, as numbers.
-ghost use Rattle.std.specs.Prelude.{◌≡◌, [], ◌∷◌, ◌++◌, ◌<◌, length};
+ghost use Rattle.std.specs.Prelude.{◌≡◌, ◌≤◌, [], length};
 ghost use Rattle.request.specs.declared.label.Family.TheVariants.{Any};
 ghost use Rattle.inventory.specs.Walk.{uids};
+ghost use Rattle.inventory.specs.Numbers.{First};
 
 use label_body::body::{takes_part, uid_of};
 use rack::tag::Kind;
@@ -36,19 +37,19 @@ impl Uids {
         }
     }
 
-    fn clear(&mut self)
-        ensures { self.new ≡ [] }
+    // The UIDs of a rack, in place of those that were held.
+    pub fn collect(&mut self, rack: &Rack, family: Family)
+        ensures { self.new ≡ uids family rack.now }
     {
-        self.count = 0;
+        self.count = collect(rack, family, &mut self.all);
     }
 
-    fn push(&mut self, u: u64)
-        requires { length self.old < 64 }
-        ensures { self.new ≡ self.old ++ u ∷ [] }
+    // Of the UIDs of all labels that take part, those that the family lets answer.
+    pub fn narrow(&mut self, rack: &Rack, family: Family)
+        requires { self.old ≡ uids Any rack.now }
+        ensures { self.new ≡ uids family rack.now }
     {
-        let n = self.count;
-        self.all[n] = u;
-        self.count = n + 1;
+        self.count = narrow(rack, family, &mut self.all, self.count);
     }
 
     pub fn as_slice(&self) -> &[u64]
@@ -64,27 +65,31 @@ impl Uids {
     }
 }
 
-// The UIDs in the order of the rack.
+// The UIDs in the order of the rack. Gives how many.
 #[tactic(auto, using(crate::proofs::NumbersGathered::gathered))]
-pub fn collect(rack: &Rack, family: Family, us: &mut Uids)
-    ensures { us.new ≡ uids family rack.now }
+pub fn collect(rack: &Rack, family: Family, us: &mut [u64]) -> usize
+    requires in_bounds { 64 ≤ length us.old }
+    ensures { First (uids family rack.now) us.new result }
 {
-    us.clear();
+    let mut n = 0;
     for i in 0..rack.count() {
         let body = rack.body(i);
         if rack.kind(i) == Kind::Label && takes_part(body, family) {
-            us.push(uid_of(body));
+            us[n] = uid_of(body);
+            n += 1;
         }
     }
+    n
 }
 
-// Of the UIDs of all labels that take part, those of the labels that the family lets answer.
-pub fn narrow(rack: &Rack, family: Family, us: &mut Uids)
-    requires { us.old ≡ uids Any rack.now }
-    ensures { us.new ≡ uids family rack.now }
+// Of the UIDs of all labels that take part, those of the labels that the family lets answer. Gives how many.
+pub fn narrow(rack: &Rack, family: Family, us: &mut [u64], all: usize) -> usize
+    requires in_bounds { 64 ≤ length us.old }
+    requires first { First (uids Any rack.now) us.old all }
+    ensures { First (uids family rack.now) us.new result }
 {
     match family {
-        Family::Any => {}
+        Family::Any => all,
         Family::Only(_) => collect(rack, family, us),
     }
 }

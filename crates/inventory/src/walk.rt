@@ -8,7 +8,7 @@ ghost use Rattle.inventory.specs.Promise.{flat, Reply};
 
 use crate::clear::clear_rack;
 use crate::round::{Listed, leading, play_round};
-use crate::taking::{Uids, collect, narrow};
+use crate::taking::Uids;
 use crate::twins::has_twins;
 use frame::refusal::Refusal;
 use rack::whole::Rack;
@@ -86,11 +86,11 @@ fn begin(file: &[u8], family: Family, room: usize, us: &mut Uids) -> Result<(), 
     if room < 8 * rack.count() {
         return Err(Refusal::List);
     }
-    collect(&rack, Family::Any, us);
+    us.collect(&rack, Family::Any);
     if has_twins(us.as_slice()) {
         return Err(Refusal::Twins);
     }
-    narrow(&rack, family, us);
+    us.narrow(&rack, family);
     Ok(())
 }
 
