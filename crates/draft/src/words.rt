@@ -1,6 +1,7 @@
 // What a text of a rack is made of, and what is wrong with one.
 ghost use Rattle.std.specs.Prelude.{◌≡◌};
 ghost use Rattle.print.specs.Line.{laid};
+ghost use Rattle.print.specs.Seen.{seen};
 ghost use Rattle.draft.specs.Words.{no_part, no_what, ended, behind, pair_in, pair_from, uid_in, uid_from, part_text, expected_text, why_text};
 
 use print::line::Line;
@@ -138,8 +139,8 @@ impl Part {
 }
 
 #[tactic(auto, using(print::proofs::Lines::lines), unfolding(crate::specs::Words::expected_text))]
-fn put_expected<const N: usize>(line: &mut Line<N>, column: u64, part: Part)
-    ensures { line.new ≡ laid N line.old (expected_text column part) }
+fn put_expected(line: &mut Line, column: u64, part: Part)
+    ensures { seen line.new ≡ laid (seen line.old) (expected_text column part) }
 {
     line.put(b"column ");
     line.decimal(column);
@@ -148,8 +149,8 @@ fn put_expected<const N: usize>(line: &mut Line<N>, column: u64, part: Part)
 }
 
 #[tactic(auto, unfolding(crate::specs::Words::why_text))]
-pub fn put_why<const N: usize>(line: &mut Line<N>, why: Why)
-    ensures { line.new ≡ laid N line.old (why_text why) }
+pub fn put_why(line: &mut Line, why: Why)
+    ensures { seen line.new ≡ laid (seen line.old) (why_text why) }
 {
     match why {
         Why::Part(column, part) => put_expected(line, column, part),

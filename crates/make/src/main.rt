@@ -5,6 +5,7 @@ mod lines;
 
 ghost use Rattle.std.specs.Prelude.{◌≡◌};
 ghost use Rattle.print.specs.Line.{laid};
+ghost use Rattle.print.specs.Seen.{seen};
 ghost use Rattle.make.specs.Texts.{wrong_text, refused_text};
 
 use crate::lines::{Flaw, Stop, make_rack};
@@ -19,8 +20,8 @@ use text::save::save;
 use verbs::tokens::{Span, text_of};
 
 #[tactic(auto, using(print::proofs::Lines::lines), unfolding(crate::specs::Texts::wrong_text))]
-fn put_wrong<const N: usize>(line: &mut Line<N>, stop: Stop)
-    ensures { line.new ≡ laid N line.old (wrong_text stop.line stop.why) }
+fn put_wrong(line: &mut Line, stop: Stop)
+    ensures { seen line.new ≡ laid (seen line.old) (wrong_text stop.line stop.why) }
 {
     line.put(b"line ");
     line.decimal(stop.line);
@@ -30,8 +31,8 @@ fn put_wrong<const N: usize>(line: &mut Line<N>, stop: Stop)
 }
 
 #[tactic(auto, using(print::proofs::Lines::lines), unfolding(crate::specs::Texts::refused_text))]
-fn put_refused<const N: usize>(line: &mut Line<N>, rack: &[u8], v: Verdict)
-    ensures { line.new ≡ laid N line.old (refused_text rack.now v) }
+fn put_refused(line: &mut Line, rack: &[u8], v: Verdict)
+    ensures { seen line.new ≡ laid (seen line.old) (refused_text rack.now v) }
 {
     line.put(b"not written: ");
     put_refusal(line, rack, v);
@@ -46,7 +47,8 @@ fn leave(rt: &HostRuntime, rack: &[u8]) {
 }
 
 fn flawed(rt: &HostRuntime, out: &[u8], flaw: Flaw) {
-    let mut line = Line::<160>::new();
+    let mut room = [0u8; 160];
+    let mut line = Line::new(&mut room);
     match flaw {
         Flaw::Wrong(stop) => put_wrong(&mut line, stop),
         Flaw::Refused(n, offence) => {

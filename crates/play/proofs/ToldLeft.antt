@@ -3,7 +3,7 @@ use Rattle.std.proofs.Common.{◌≡◌, ℕ, ◌≤◌, true, false, List, [], 
 use lib.ListN.{length-replicate}
 use Rattle.frame.specs.Number.{Bytes}
 use Rattle.frame.proofs.Numbers.{bytes_part}
-use Rattle.print.specs.Line.{laid}
+use Rattle.print.specs.Line.{Lent, laid}
 use Rattle.print.proofs.Lines.{laid_new, laid_whole, laid_then}
 use Rattle.request.specs.Signal.{signal_of}
 use Rattle.request.specs.declared.signal.Signal.{Signal}
@@ -18,26 +18,28 @@ use Rattle.trace.specs.Changes.{changes_text}
 use Rattle.trace.proofs.CalmChanges.{calm_changes, only_owner}
 use Rattle.script.specs.Lines.{draws_for}
 use Rattle.play.specs.Facts.{Unchanged}
-use Rattle.play.specs.Told.{draws_of, outcome_of, left, beside_reply, behind_reply, meaning_room, out_room, told_text, event_text, Played}
+use Rattle.play.specs.Told.{draws_of, outcome_of, left, beside_reply, behind_reply, meaning_room, told_text, event_text, Played}
 use Rattle.play.proofs.ToldAny.{Alike, event_alike, quiet_alike, told_alike}
 
 -- ---- a rack and a meaning, read from where they were laid
 
 -- a rack that was laid into a line of enough room stands there
-pub kept : (tags : List ℕ) → RackFine tags → laid 65536 [] tags ≡ tags
-kept tags ok = laid_whole 65536 tags (most_bytes tags (fine_rack tags ok))
+pub kept : (line : Lent) (tags : List ℕ) → line.text ≡ [] → 65536 ≤ length line.behind → RackFine tags → (laid line tags).text ≡ tags
+kept line tags e h ok = laid_whole line tags e (let m = most_bytes tags (fine_rack tags ok) in omega arith)
 
 -- the line of a reply with what it means, and what a frame changed behind it
-pub told_laid : (n number : ℕ) (f ds old new answer : List ℕ) (report : Report) (out : List ℕ) {s : Signal} {t out₁ out₂ : List ℕ}
-    → s ≡ signal_of number f → t ≡ laid meaning_room [] (beside_reply number f ds old (left report new answer))
-    → out₁ ≡ laid out_room out (line_text (front_text n number s report answer) t) → out₂ ≡ laid out_room out₁ (behind_reply number old new)
-    → out₂ ≡ laid out_room out (told_text n number f ds old (left report new answer))
+pub told_laid : (n number : ℕ) (f ds old new answer : List ℕ) (report : Report) (out line : Lent) {s : Signal} {t : List ℕ} {out₁ out₂ : Lent}
+    → s ≡ signal_of number f → line.text ≡ [] → length line.behind ≡ meaning_room
+    → t ≡ (laid line (beside_reply number f ds old (left report new answer))).text
+    → out₁ ≡ laid out (line_text (front_text n number s report answer) t) → out₂ ≡ laid out₁ (behind_reply number old new)
+    → out₂ ≡ laid out (told_text n number f ds old (left report new answer))
 unfolding told_text
-told_laid n number f ds old new answer report out e k g h =
-    laid_then out_room out _ _
+told_laid n number f ds old new answer report out line e v w k g h =
+    let said = beside_reply number f ds old (left report new answer) in
+    laid_then out _ _
     (g
-    ∙ ap₂ (λ (s : Signal) (t : List ℕ). laid out_room out (line_text (front_text n number s report answer) t)) e
-    (k ∙ laid_new meaning_room (beside_reply number f ds old (left report new answer))))
+    ∙ ap₂ (λ (s : Signal) (t : List ℕ). laid out (line_text (front_text n number s report answer) t)) e
+    (k ∙ laid_new line said v ∙ ap (λ (m : ℕ). take m said) w))
     h
 
 -- ---- an event, with the draws that are lent, of which there are k
@@ -72,12 +74,12 @@ module _ (tags frame draws : List ℕ) (number k : ℕ) (e : k ≡ draws_for (ge
         only : number ≡ 3 → Only (one_call (signal_of number frame).label.call) (signal_of number frame).label.uid tags (behind number)
         only e = rw e (only_owner tags ok frame (take k draws) answer)
 
-    module _ (n : ℕ) (fine : RackFine tags₁) {out out₁ : List ℕ} where
-      pub played_quietly : out₁ ≡ laid out_room out (quiet_text n number report answer₁) → Played true n number frame draws tags out tags₁ out₁
+    module _ (n : ℕ) (fine : RackFine tags₁) {out out₁ : Lent} where
+      pub played_quietly : out₁ ≡ laid out (quiet_text n number report answer₁) → Played true n number frame draws tags out tags₁ out₁
       unfolding event_text
-      played_quietly g = record { rack = is_left.racks; fine = fine; text = g ∙ ap (laid out_room out) (quiet_alike n number is_left) }
+      played_quietly g = record { rack = is_left.racks; fine = fine; text = g ∙ ap (laid out) (quiet_alike n number is_left) }
 
-      pub played_told : {old : List ℕ} → old ≡ tags → out₁ ≡ laid out_room out (told_text n number frame (take k draws) old (left report tags₁ answer₁))
+      pub played_told : {old : List ℕ} → old ≡ tags → out₁ ≡ laid out (told_text n number frame (take k draws) old (left report tags₁ answer₁))
           → Played false n number frame draws tags out tags₁ out₁
       unfolding event_text
       played_told {old} q g =
@@ -86,6 +88,6 @@ module _ (tags frame draws : List ℕ) (number k : ℕ) (e : k ≡ draws_for (ge
             fine = fine;
             text =
                 g
-                ∙ ap₂ (λ (ds r₀ : List ℕ). laid out_room out (told_text n number frame ds r₀ (left report tags₁ answer₁))) lent q
-                ∙ ap (laid out_room out) (told_alike n number is_left frame (draws_of tags draws) tags);
+                ∙ ap₂ (λ (ds r₀ : List ℕ). laid out (told_text n number frame ds r₀ (left report tags₁ answer₁))) lent q
+                ∙ ap (laid out) (told_alike n number is_left frame (draws_of tags draws) tags);
           }

@@ -1,7 +1,7 @@
 -- The program play over all its input: the lines that it finds, what each leaves, and the text that they say, in order. Assumes nothing.
 use Rattle.std.specs.Prelude.{◌≡◌, ℕ, ◌+◌, ◌-◌, ◌/◌, ◌%◌, ◌^◌, Bool, true, false, List, [], ◌++◌, ◌==◌, nat_lt, if◌then◌else◌}
 use Rattle.frame.specs.Number.{part}
-use Rattle.print.specs.Line.{laid}
+use Rattle.print.specs.Line.{Lent, laid, cleared}
 use Rattle.rack.specs.Facts.{RackFine}
 use Rattle.text.specs.declared.lines.Source.{Source}
 use Rattle.text.specs.declared.lines.Reached.{Reached}
@@ -10,7 +10,6 @@ use Rattle.text.specs.declared.lines.Got.{Got}
 use Rattle.text.specs.Lines.{has_ended, next_of, is_found, Follows}
 use Rattle.text.specs.Mark.{mark_length}
 use Rattle.play.specs.declared.session.Session.{Session}
-use Rattle.play.specs.Told.{out_room}
 use Rattle.play.specs.Turns.{turn_said, Leaves}
 
 -- where the program stands between two lines: the reading and its buffer, how many lines were read, the rack, the draws, and the bytes of the last line
@@ -82,15 +81,15 @@ pub record Over (quiet : Bool) (a : Stand) (tags : List ℕ) : Type 0 where
 abbrev pub stand_of : Session → List ℕ → Stand
 stand_of s tags = stand s.source s.buf s.n tags s.draws s.bytes
 
-pub record Stepped (quiet : Bool) (a b : Stand) (out out₁ : List ℕ) : Type 0 where
+pub record Stepped (quiet : Bool) (a b : Stand) (out out₁ : Lent) : Type 0 where
   pub said : List ℕ
   pub turn : Turn quiet a b said
   pub fine : RackFine b.tags
-  pub text : out₁ ≡ laid out_room out said
+  pub text : out₁ ≡ laid out said
 
--- from an empty line on
-pub record Laid (quiet : Bool) (a b : Stand) (out₁ : List ℕ) : Type 0 where
+-- from the line cleared on
+pub record Laid (quiet : Bool) (a b : Stand) (out out₁ : Lent) : Type 0 where
   pub said : List ℕ
   pub batch : Batch quiet a b said
   pub fine : RackFine b.tags
-  pub text : out₁ ≡ laid out_room [] said
+  pub text : out₁ ≡ laid (cleared out) said

@@ -1,7 +1,7 @@
 -- All that is said of one event. Assumes nothing.
 use Rattle.std.specs.Prelude.{◌≡◌, ℕ, Bool, List, [], ◌++◌, length, take, replicate, ◌==◌, slice_index, if◌then◌else◌}
 use Rattle.frame.specs.Number.{part}
-use Rattle.print.specs.Line.{laid}
+use Rattle.print.specs.Line.{Lent, laid}
 use Rattle.request.specs.Signal.{signal_of}
 use Rattle.rack.specs.Facts.{RackFine}
 use Rattle.rack.specs.Tag.{aired}
@@ -41,12 +41,9 @@ beside_reply number frame draws old o =
 unfoldable pub behind_reply : ℕ → List ℕ → List ℕ → List ℕ
 behind_reply number old new = if number == 3 then changes_text old new else if number == 5 then changes_text old new else []
 
--- more than any meaning has, and more than twice what is said of an event
+-- more than any meaning has
 abbrev pub meaning_room : ℕ
 meaning_room = 10240
-
-abbrev pub out_room : ℕ
-out_room = 131072
 
 unfoldable pub told_text : ℕ → ℕ → List ℕ → List ℕ → List ℕ → Outcome → List ℕ
 told_text n number frame draws old o =
@@ -61,7 +58,7 @@ event_text quiet n number frame draws tags =
     else told_text n number frame (draws_of tags draws) tags o
 
 -- what the call that plays it promises: the rack that it leaves, and the text, laid behind what stands in the line
-pub record Played (quiet : Bool) (n number : ℕ) (frame draws tags out tags₁ out₁ : List ℕ) : Type 0 where
+pub record Played (quiet : Bool) (n number : ℕ) (frame draws tags : List ℕ) (out : Lent) (tags₁ : List ℕ) (out₁ : Lent) : Type 0 where
   pub rack : tags₁ ≡ (outcome_of tags number frame draws).rack
   pub fine : RackFine tags₁
-  pub text : out₁ ≡ laid out_room out (event_text quiet n number frame draws tags)
+  pub text : out₁ ≡ laid out (event_text quiet n number frame draws tags)

@@ -4,7 +4,7 @@ use Rattle.print.specs.Ascii.{ascii}
 use Rattle.print.specs.Decimal.{decimal_text}
 use Rattle.print.specs.Hex.{hex_text}
 use Rattle.print.specs.Named.{word_number}
-use Rattle.print.specs.Line.{laid}
+use Rattle.print.specs.Line.{Lent, laid}
 use Rattle.rack.specs.Facts.{RackFine}
 use Rattle.verbs.specs.declared.trouble.Trouble.{Trouble}
 use Rattle.verbs.specs.Trouble.{trouble_text}
@@ -13,7 +13,7 @@ use Rattle.script.specs.Commands.{Answer}
 use Rattle.script.specs.Lines.{Effect, effect_of}
 use Rattle.text.specs.declared.lines.Reached.{Reached}
 use Rattle.text.specs.declared.lines.Reached.TheVariants.{Line, Long, End}
-use Rattle.play.specs.Told.{outcome_of, event_text, out_room}
+use Rattle.play.specs.Told.{outcome_of, event_text}
 
 -- line n cannot be read; it is too long
 unfoldable pub wrong_text : ℕ → Trouble → List ℕ
@@ -70,7 +70,7 @@ pub record Leaves (reached : Reached) (line tags draws bytes tags₁ draws₁ by
   pub read : bytes₁ ≡ (turn_effect reached line draws bytes).bytes
 
 -- what the call promises: what is left, and the text, laid behind what stands in the line
-pub record Turned (quiet : Bool) (n : ℕ) (reached : Reached) (line tags draws bytes out tags₁ draws₁ bytes₁ out₁ : List ℕ) : Type 0 where
+pub record Turned (quiet : Bool) (n : ℕ) (reached : Reached) (line tags draws bytes : List ℕ) (out : Lent) (tags₁ draws₁ bytes₁ : List ℕ) (out₁ : Lent) : Type 0 where
   pub leaves : Leaves reached line tags draws bytes tags₁ draws₁ bytes₁
   pub fine : RackFine tags₁
-  pub text : out₁ ≡ laid out_room out (turn_said quiet n reached line tags draws bytes draws₁)
+  pub text : out₁ ≡ laid out (turn_said quiet n reached line tags draws bytes draws₁)

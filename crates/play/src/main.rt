@@ -8,6 +8,7 @@ mod turns;
 ghost use Rattle.rack.specs.Facts.{RackFine};
 
 use crate::session::{Session, play_lines};
+use crate::told::OUT;
 use frame::verdict::Offence;
 use print::fail::tell;
 use print::line::Line;
@@ -21,7 +22,8 @@ use text::save::save;
 fn play_all(rt: &HostRuntime, quiet: bool, tags: &mut [u8]) -> bool
     requires { RackFine tags.old }
 {
-    let mut session = Session::new();
+    let mut room = [0u8; OUT];
+    let mut session = Session::new(&mut room);
     play_lines(rt, quiet, &mut session, tags)
 }
 
@@ -38,7 +40,8 @@ fn leave(rt: &HostRuntime, i: usize, tags: &[u8]) {
 
 // Why a rack is not played.
 fn refuse(rt: &HostRuntime, tags: &[u8], offence: Offence) {
-    let mut line = Line::<256>::new();
+    let mut room = [0u8; 256];
+    let mut line = Line::new(&mut room);
     put_refusal(&mut line, tags, Err(offence));
     line.put(b"\n");
     say(rt, line.text());

@@ -1,12 +1,13 @@
 // All lines of the input, one after the other, and what is said of them.
-ghost use Rattle.std.specs.Prelude.{◌≡◌, ◌<◌, ◌≤◌, true, [], length, replicate};
+ghost use Rattle.std.specs.Prelude.{◌≡◌, ◌≤◌, true, false, length, replicate};
+ghost use Rattle.print.specs.Line.{lent, buffer, full};
+ghost use Rattle.print.specs.Seen.{seen};
 ghost use Rattle.rack.specs.Facts.{RackFine};
 ghost use Rattle.text.specs.declared.lines.Source.TheVariants.{Holding};
 ghost use Rattle.text.specs.Lines.{Inside};
-ghost use Rattle.play.specs.Told.{out_room};
 ghost use Rattle.play.specs.Session.{stand, stand_of, start_of, line_of, may_wait, Stepped, Laid, Over};
 
-use crate::told::{Desk, OUT};
+use crate::told::Desk;
 use crate::turns::turn;
 use print::fail::tell;
 use print::line::Line;
@@ -25,22 +26,22 @@ const TURNS: u64 = 4611686018427387904;
 // Where the program stands between two lines: the reading and its buffer, how many lines were read, the draws, the bytes of the last line, and what is
 // lent to every event. It is made once, since some of it is long.
 #[derive(Drop)]
-pub struct Session {
+pub struct Session<'a> {
     source: Source,
     n: u64,
     buf: [u8; LONGEST],
     draws: [u8; 64],
     bytes: [u8; BYTES],
-    desk: Desk,
+    desk: Desk<'a>,
 }
 
-impl Session {
-    // Nothing is read yet, and all draws are 0.
-    pub fn new() -> Self
+impl<'a> Session<'a> {
+    // Nothing is read yet, and all draws are 0. All that is said is laid into the room that is lent.
+    pub fn new(room: &'a mut [u8]) -> Session<'a>
         ensures source { result.source ≡ Holding 0 0 }
         ensures count { result.n ≡ 0 }
         ensures draws { result.draws ≡ replicate 64 0 }
-        ensures out { result.desk.out ≡ [] }
+        ensures out { seen result.desk.out ≡ lent room.old 0 room.entry.ghost_name }
     {
         Session {
             source: source_of(),
@@ -48,7 +49,7 @@ impl Session {
             buf: [0; LONGEST],
             draws: [0; 64],
             bytes: [0; BYTES],
-            desk: Desk::new(),
+            desk: Desk::new(room),
         }
     }
 }
@@ -80,7 +81,7 @@ fn line_in(n: u64, reached: Reached, buf: &[u8]) -> &[u8]
 fn play_next(rt: &HostRuntime, quiet: bool, session: &mut Session, tags: &mut [u8])
     requires { RackFine tags.old }
     ensures { Stepped quiet (stand_of session.old tags.old) (stand_of session.new tags.new)
-        session.old.desk.out session.new.desk.out }
+        (seen session.old.desk.out) (seen session.new.desk.out) }
 {
     let mut input = rt.stdin();
     let got = next(rt, &mut input, session.source, &mut session.buf);
@@ -102,17 +103,18 @@ fn play_next(rt: &HostRuntime, quiet: bool, session: &mut Session, tags: &mut [u
 // Whether what was said may wait for the next line: that one is at hand, and half of the room is left for it, which is more than a line says.
 #[tactic(auto, unfolding(crate::specs::Session::may_wait))]
 fn may_wait(session: &Session) -> bool
-    ensures { result ≡ may_wait session.now.source session.now.buf out_room (length session.now.desk.out) }
+    ensures { result ≡ may_wait session.now.source session.now.buf (length (buffer (seen session.now.desk.out))) (length (seen session.now.desk.out).text) }
 {
     !has_ended(session.source)
-        && session.desk.out.len() <= OUT / 2
+        && session.desk.out.len() <= session.desk.out.room() / 2
         && at_hand(session.source, &session.buf)
 }
 
 // Plays a line and those that are at hand behind it; what is said of them is laid one behind the other.
 fn play_some(rt: &HostRuntime, quiet: bool, session: &mut Session, tags: &mut [u8])
     requires { RackFine tags.old }
-    ensures { Laid quiet (stand_of session.old tags.old) (stand_of session.new tags.new) session.new.desk.out }
+    ensures { Laid quiet (stand_of session.old tags.old) (stand_of session.new tags.new)
+        (seen session.old.desk.out) (seen session.new.desk.out) }
 {
     session.desk.out.clear();
     play_next(rt, quiet, session, tags);
@@ -125,10 +127,10 @@ fn play_some(rt: &HostRuntime, quiet: bool, session: &mut Session, tags: &mut [u
 }
 
 // Writes the text laid; whether all of it had room and was written. By reckoning it always has room: this is so that none is ever cut.
-fn hand_over(rt: &HostRuntime, out: &Line<OUT>) -> bool
-    ensures { result ≡ true → length out.now < out_room }
+fn hand_over(rt: &HostRuntime, out: &Line) -> bool
+    ensures { result ≡ true → full (seen out.now) ≡ false }
 {
-    if out.len() < OUT {
+    if !out.is_full() {
         return say(rt, out.text());
     }
     tell(rt, b"output: too long\n");

@@ -1,10 +1,11 @@
 // An event played, and what is said of it.
-ghost use Rattle.std.specs.Prelude.{◌≡◌, true, false, []};
-ghost use Rattle.print.specs.Line.{laid};
+ghost use Rattle.std.specs.Prelude.{◌≡◌, true, false};
+ghost use Rattle.print.specs.Line.{laid, lent};
+ghost use Rattle.print.specs.Seen.{seen};
 ghost use Rattle.request.specs.Signal.{signal_of};
 ghost use Rattle.rack.specs.Facts.{RackFine};
 ghost use Rattle.play.specs.Facts.{Unchanged};
-ghost use Rattle.play.specs.Told.{left, beside_reply, behind_reply, meaning_room, out_room, told_text, Played};
+ghost use Rattle.play.specs.Told.{left, beside_reply, behind_reply, told_text, Played};
 
 use event::call::{LEAST, Report, event_on};
 use print::line::Line;
@@ -28,25 +29,26 @@ const MEANING: usize = 10240;
 // More than twice what is said of an event.
 pub const OUT: usize = 131072;
 
-// What is lent to every event, made once, since some of it is long: for the rack as it was before, for an answer and what that means, and for all that
-// is said.
+// What is lent to every event, made once, since some of it is long: for the rack as it was before, for an answer and what that means, and a line for
+// all that is said.
 #[derive(Drop)]
-pub struct Desk {
-    before: Line<RACK>,
+pub struct Desk<'a> {
+    before: [u8; RACK],
     answer: [u8; LEAST],
-    meaning: Line<MEANING>,
-    pub out: Line<OUT>,
+    meaning: [u8; MEANING],
+    pub out: Line<'a>,
 }
 
-impl Desk {
-    pub fn new() -> Self
-        ensures { result.out ≡ [] }
+impl<'a> Desk<'a> {
+    // All that is said is laid into the room that is lent.
+    pub fn new(room: &'a mut [u8]) -> Desk<'a>
+        ensures { seen result.out ≡ lent room.old 0 room.entry.ghost_name }
     {
         Desk {
-            before: Line::new(),
+            before: [0; RACK],
             answer: [0; LEAST],
-            meaning: Line::new(),
-            out: Line::new(),
+            meaning: [0; MEANING],
+            out: Line::new(room),
         }
     }
 }
@@ -67,8 +69,8 @@ struct Happened<'f, 'd, 'a> {
 
 // What an answer that was alone means, why nobody answered, or who did.
 #[tactic(auto, using(print::proofs::Lines::lines), unfolding(crate::specs::Told::beside_reply))]
-fn put_beside(line: &mut Line<MEANING>, e: &Happened)
-    ensures { line.new ≡ laid meaning_room line.old (beside_reply e.now.number e.now.frame.now e.now.draws.now e.now.old
+fn put_beside(line: &mut Line, e: &Happened)
+    ensures { seen line.new ≡ laid (seen line.old) (beside_reply e.now.number e.now.frame.now e.now.draws.now e.now.old
         (left e.now.report e.now.tags e.now.answer.now)) }
 {
     match e.report.answered {
@@ -86,9 +88,9 @@ fn put_beside(line: &mut Line<MEANING>, e: &Happened)
 // What a frame changed. Most label frames change nothing that is told, and others but one label: of the rest the racks, which are long, are not
 // compared.
 #[tactic(auto, using(print::proofs::Lines::lines), unfolding(crate::specs::Told::behind_reply))]
-fn put_behind(line: &mut Line<OUT>, e: &Happened)
+fn put_behind(line: &mut Line, e: &Happened)
     requires { Unchanged e.now.number e.now.signal.label e.now.old e.now.tags }
-    ensures { line.new ≡ laid out_room line.old (behind_reply e.now.number e.now.old e.now.tags) }
+    ensures { seen line.new ≡ laid (seen line.old) (behind_reply e.now.number e.now.old e.now.tags) }
 {
     let asked = e.signal.label;
     if e.number == 3 {
@@ -101,13 +103,13 @@ fn put_behind(line: &mut Line<OUT>, e: &Happened)
 }
 
 // The line of a reply with what it means, and the lines of what changed. The meaning is laid by itself first.
-fn put_told(out: &mut Line<OUT>, meaning: &mut Line<MEANING>, n: u64, e: &Happened)
+fn put_told(out: &mut Line, room: &mut [u8; MEANING], n: u64, e: &Happened)
     requires { Unchanged e.now.number e.now.signal.label e.now.old e.now.tags }
-    ensures { out.new ≡ laid out_room out.old (told_text n e.now.number e.now.frame.now e.now.draws.now e.now.old
+    ensures { seen out.new ≡ laid (seen out.old) (told_text n e.now.number e.now.frame.now e.now.draws.now e.now.old
         (left e.now.report e.now.tags e.now.answer.now)) }
 {
-    meaning.clear();
-    put_beside(meaning, e);
+    let mut meaning = Line::new(room);
+    put_beside(&mut meaning, e);
     put_line(
         out,
         n,
@@ -120,13 +122,13 @@ fn put_told(out: &mut Line<OUT>, meaning: &mut Line<MEANING>, n: u64, e: &Happen
     put_behind(out, e);
 }
 
-// Plays the event that line n asks, and lays all that is said of it. What stood in the desk's lines before does not matter.
+// Plays the event that line n asks, and lays all that is said of it. What stood in the desk's buffers before does not matter.
 fn play_told(n: u64, number: u8, frame: &[u8], tags: &mut [u8], draws: &[u8], desk: &mut Desk)
     requires { RackFine tags.old }
-    ensures { Played false n number frame.now draws.now tags.old desk.old.out tags.new desk.new.out }
+    ensures { Played false n number frame.now draws.now tags.old (seen desk.old.out) tags.new (seen desk.new.out) }
 {
-    desk.before.clear();
-    desk.before.put(tags);
+    let mut before = Line::new(&mut desk.before);
+    before.put(tags);
     let few = &draws[..draws_for(tags, draws.len())];
     let report = event_on(tags, number, frame, few, &mut desk.answer);
     let e = Happened {
@@ -134,7 +136,7 @@ fn play_told(n: u64, number: u8, frame: &[u8], tags: &mut [u8], draws: &[u8], de
         frame,
         signal: hear(number, frame),
         draws: few,
-        old: Rack::of(desk.before.text()),
+        old: Rack::of(before.text()),
         tags: Rack::of(tags),
         report,
         answer: &desk.answer,
@@ -145,7 +147,7 @@ fn play_told(n: u64, number: u8, frame: &[u8], tags: &mut [u8], draws: &[u8], de
 // Plays it, and lays the reply alone.
 fn play_quietly(n: u64, number: u8, frame: &[u8], tags: &mut [u8], draws: &[u8], desk: &mut Desk)
     requires { RackFine tags.old }
-    ensures { Played true n number frame.now draws.now tags.old desk.old.out tags.new desk.new.out }
+    ensures { Played true n number frame.now draws.now tags.old (seen desk.old.out) tags.new (seen desk.new.out) }
 {
     let few = &draws[..draws_for(tags, draws.len())];
     let report = event_on(tags, number, frame, few, &mut desk.answer);
@@ -162,7 +164,7 @@ pub fn play_event(
     desk: &mut Desk,
 )
     requires { RackFine tags.old }
-    ensures { Played quiet n number frame.now draws.now tags.old desk.old.out tags.new desk.new.out }
+    ensures { Played quiet n number frame.now draws.now tags.old (seen desk.old.out) tags.new (seen desk.new.out) }
 {
     if quiet {
         play_quietly(n, number, frame, tags, draws, desk);

@@ -1,12 +1,12 @@
 // One line of the input played, and what is said of it.
 ghost use Rattle.std.specs.Prelude.{◌≡◌};
 ghost use Rattle.print.specs.Line.{laid};
+ghost use Rattle.print.specs.Seen.{seen};
 ghost use Rattle.rack.specs.Facts.{RackFine};
 ghost use Rattle.text.specs.declared.lines.Reached.TheVariants as got;
-ghost use Rattle.play.specs.Told.{out_room};
 ghost use Rattle.play.specs.Turns.{wrong_text, long_text, draws_text, Turned};
 
-use crate::told::{Desk, OUT, play_event};
+use crate::told::{Desk, play_event};
 use print::fail::fail;
 use print::line::Line;
 use script::lines::{Action, action_of};
@@ -16,8 +16,8 @@ use verbs::trouble::{Trouble, put_trouble};
 
 // Line n cannot be read.
 #[tactic(auto, using(print::proofs::Lines::lines), unfolding(crate::specs::Turns::wrong_text))]
-fn put_wrong(line: &mut Line<OUT>, n: u64, trouble: Trouble)
-    ensures { line.new ≡ laid out_room line.old (wrong_text n trouble) }
+fn put_wrong(line: &mut Line, n: u64, trouble: Trouble)
+    ensures { seen line.new ≡ laid (seen line.old) (wrong_text n trouble) }
 {
     line.word_number(b"line ", n);
     line.put(b": ");
@@ -26,8 +26,8 @@ fn put_wrong(line: &mut Line<OUT>, n: u64, trouble: Trouble)
 }
 
 #[tactic(auto, using(print::proofs::Lines::lines), unfolding(crate::specs::Turns::long_text))]
-fn put_long(line: &mut Line<OUT>, n: u64)
-    ensures { line.new ≡ laid out_room line.old (long_text n) }
+fn put_long(line: &mut Line, n: u64)
+    ensures { seen line.new ≡ laid (seen line.old) (long_text n) }
 {
     line.word_number(b"line ", n);
     line.put(b": too long\n");
@@ -35,8 +35,8 @@ fn put_long(line: &mut Line<OUT>, n: u64)
 
 // Draws as a line that asks for them again.
 #[tactic(auto, using(print::proofs::Lines::lines), unfolding(crate::specs::Turns::draws_text))]
-fn put_draws(line: &mut Line<OUT>, n: u64, draws: &[u8])
-    ensures { line.new ≡ laid out_room line.old (draws_text n draws.now) }
+fn put_draws(line: &mut Line, n: u64, draws: &[u8])
+    ensures { seen line.new ≡ laid (seen line.old) (draws_text n draws.now) }
 {
     line.decimal(n);
     line.put(b" draws");
@@ -64,8 +64,8 @@ pub fn turn(
     desk: &mut Desk,
 )
     requires { RackFine tags.old }
-    ensures { Turned quiet n reached line.now tags.old draws.old bytes.old desk.old.out tags.new
-        draws.new bytes.new desk.new.out }
+    ensures { Turned quiet n reached line.now tags.old draws.old bytes.old (seen desk.old.out) tags.new
+        draws.new bytes.new (seen desk.new.out) }
 {
     match reached {
         Reached::Line(_, _) => play_line(rt, quiet, line, n, tags, draws, bytes, desk),
@@ -86,8 +86,8 @@ fn play_line(
     desk: &mut Desk,
 )
     requires { RackFine tags.old }
-    ensures { Turned quiet n (got.Line 0 0) line.now tags.old draws.old bytes.old desk.old.out tags.new
-        draws.new bytes.new desk.new.out }
+    ensures { Turned quiet n (got.Line 0 0) line.now tags.old draws.old bytes.old (seen desk.old.out) tags.new
+        draws.new bytes.new (seen desk.new.out) }
 {
     match action_of(line, draws, bytes) {
         Ok(Action::Nothing) => {}

@@ -1,45 +1,80 @@
 -- Texts laid into a line, one behind the other, are one text laid. Assumes nothing.
-use mathlib.Core.Path.{◌≡◌, refl, ap, sym, ◌∙◌}
+use mathlib.Core.Path.{◌≡◌, refl, ap, ap₂, sym, ◌∙◌}
 use mathlib.Core.Logic.{⊎_elim}
+use mathlib.Core.Bool.{false}
 use mathlib.Core.List.{List, [], ◌∷◌, ◌++◌, append_assoc}
 use Prim.Native.Nat.{ℕ, zero, suc, min, ◌+◌, ◌-◌, ◌≤◌, ◌<◌}
 use native.Mathlib.Nat.{sub-zero}
 use native.Mathlib.Numerals.{add-one}
 use native.Mathlib.Omega.{arith}
+use base.Fml.{GName}
 use borrow.Author.Rules.{rules}
-use lib.ListN.{length, take, drop, length-append, length-take}
-use lib.Seq.{sets, sets-eq, take_all, length-take-le, take-append_seam}
+use borrow.Author.Tests.{eqb-false}
+use lib.ListN.{length, set, take, drop, length-append, length-drop, drop_of_length-le}
+use lib.Seq.{sets, sets-eq, set_out, take-set-lt, drop-set-lt, take_all, take_at, drop_at, drop-drop, length-take-le}
 use Rattle.frame.proofs.Lists.{gather_none, gather_more}
 use Rattle.frame.proofs.Bools.{below_or_not}
 use Rattle.print.specs.Puts.{spaces}
-use Rattle.print.specs.Line.{laid}
+use Rattle.print.specs.Line.{Lent, lent, laid, full}
 
 -- ---- what `put` does to its buffer
 
-laid_at : (t bytes : List ℕ) (at r : ℕ) → at + length t ≤ length bytes → r ≡ at + length t → take r (sets bytes at t) ≡ take at bytes ++ t
-laid_at t bytes at r h e =
-    let l : length (take at bytes) ≡ at = length-take-le at bytes (omega arith) in
-    let m = length-append (take at bytes) t in
-    let f : r ≡ length (take at bytes ++ t) = omega arith in
-    ap (take r) (sets-eq t bytes at h)
-    ∙ ap (λ (k : ℕ). take k (take at bytes ++ t ++ drop (at + length t) bytes)) f
-    ∙ take-append_seam (take at bytes ++ t) (drop (at + length t) bytes)
+-- of a text as much as there is room for, or all of it
+part_taken : (s : List ℕ) (k m : ℕ) → k ≡ min (length s) m → take k s ≡ take m s
+part_taken s k m e =
+    ⊎_elim
+    (λ l. let z : k ≡ m = omega arith in ap (λ (j : ℕ). take j s) z)
+    (λ l. take_all k s (omega arith) ∙ sym (take_all m s l))
+    (below_or_not m (length s))
 
-pub laid_put : (s bytes : List ℕ) {n : ℕ} {new old : List ℕ} {at k r : ℕ} → length bytes ≡ n → at ≤ n → take at bytes ≡ old → k ≡ min (length s) (n - at)
-    → (r ≡ at + k) × (new ≡ sets bytes at (take k s)) → take r new ≡ laid n old s
+-- what is left behind it
+part_left : (s bytes : List ℕ) (at k : ℕ) → at ≤ length bytes → k ≡ min (length s) (length bytes - at)
+    → drop (at + k) bytes ≡ drop (length s) (drop at bytes)
+part_left s bytes at k h e =
+    ⊎_elim
+    (λ l.
+    drop_of_length-le bytes {i = at + k} (omega arith)
+    ∙ sym (drop_of_length-le bytes {i = at + length s} (omega arith))
+    ∙ sym (drop-drop (length s) at bytes))
+    (λ l. let z : at + k ≡ at + length s = omega arith in ap (λ (j : ℕ). drop j bytes) z ∙ sym (drop-drop (length s) at bytes))
+    (below_or_not (length bytes - at) (length s))
+
+pub laid_put : (s bytes : List ℕ) (loan : GName) {new : List ℕ} {at k r : ℕ} {old : Lent} → at ≤ length bytes → lent bytes at loan ≡ old
+    → k ≡ min (length s) (length bytes - at) → (r ≡ at + k) × (new ≡ sets bytes at (take k s)) → lent new r loan ≡ laid old s
 unfolding laid
-laid_put s bytes {n} {new} {old} {at} {k} {r} m h v e p =
-    let o : length old ≡ at = ap length (sym v) ∙ length-take-le at bytes (omega arith) in
-    let f : n - length old ≡ n - at = omega arith in
-    let i : k ≤ length s = omega arith in
-    let c : length (take k s) ≡ k = length-take-le k s i in
-    ap (take r) p.1
-    ∙ laid_at (take k s) bytes at r (omega arith) (omega arith)
-    ∙ rw (v, f) (ap (λ (t : List ℕ). old ++ t)
-    (⊎_elim
-    (λ l. let z : k ≡ n - at = omega arith in ap (λ (j : ℕ). take j s) z)
-    (λ l. take_all k s (omega arith) ∙ sym (take_all (n - at) s l))
-    (below_or_not (n - at) (length s))))
+laid_put s bytes loan {new} {at} {k} {r} h v m p =
+    let t = take k s in
+    let c : length t ≡ k = length-take-le k s (omega arith) in
+    let l : length (take at bytes) ≡ at = length-take-le at bytes h in
+    let a = length-append (take at bytes) t in
+    let f : length (take at bytes ++ t) ≡ r = omega arith in
+    let b : length (drop at bytes) ≡ length bytes - at = length-drop at bytes in
+    let d : at + length t ≡ at + k = omega arith in
+    let w : new ≡ take at bytes ++ t ++ drop (at + k) bytes =
+    p.1
+    ∙ sets-eq t bytes at (omega arith)
+    ∙ ap (λ (i : ℕ). take at bytes ++ t ++ drop i bytes) d in
+    let front : take r new ≡ take at bytes ++ take (length (drop at bytes)) s =
+    ap (take r) w
+    ∙ take_at (take at bytes ++ t) (drop (at + k) bytes) r f
+    ∙ ap (λ (x : List ℕ). take at bytes ++ x) (rw b (part_taken s k (length bytes - at) m)) in
+    let back : drop r new ≡ drop (length s) (drop at bytes) =
+    ap (drop r) w ∙ drop_at (take at bytes ++ t) (drop (at + k) bytes) r f ∙ part_left s bytes at k h m in
+    ap₂ (λ (x y : List ℕ). record { text = x; behind = y; loan = loan }) front back ∙ ap (λ (o : Lent). laid o s) v
+
+-- ---- what `set` does: a byte of the text, or none
+
+pub set_here : (bytes : List ℕ) (loan : GName) (i b : ℕ) {at : ℕ} {old : Lent} → lent bytes at loan ≡ old → i < at
+    → lent (set bytes i b) at loan ≡ record old { text = set old.text i b }
+set_here bytes loan i b {at} v h =
+    ap₂ (λ (x y : List ℕ). record { text = x; behind = y; loan = loan }) (take-set-lt at bytes i b h) (drop-set-lt at bytes i b h)
+    ∙ ap (λ (o : Lent). record o { text = set o.text i b }) v
+
+pub set_past : (bytes : List ℕ) (loan : GName) (i b : ℕ) {at : ℕ} {old : Lent} → at ≤ length bytes → lent bytes at loan ≡ old → at ≤ i
+    → old ≡ record old { text = set old.text i b }
+set_past bytes loan i b {at} {old} h v l =
+    let n : length old.text ≡ at = ap (λ (o : Lent). length o.text) (sym v) ∙ length-take-le at bytes h in
+    ap (λ (x : List ℕ). record old { text = x }) (sym (set_out old.text i b (omega arith)))
 
 -- ---- texts one behind the other, and no text
 
@@ -51,20 +86,24 @@ take_both (suc k) (x ∷ s) t =
     let e : k - length s ≡ suc k - suc (length s) = omega arith in
     ap (λ (l : List ℕ). x ∷ l) (take_both k s t ∙ ap (λ (i : ℕ). take k s ++ take i t) e)
 
-pub laid_both : (n : ℕ) (line s t : List ℕ) → laid n (laid n line s) t ≡ laid n line (s ++ t)
+pub laid_both : (line : Lent) (s t : List ℕ) → laid (laid line s) t ≡ laid line (s ++ t)
 unfolding laid
-laid_both n line s t =
-    let a = take (n - length line) s in
-    let l = length-append line a in
-    let m = length-take (n - length line) s in
-    let e : n - length (line ++ a) ≡ n - length line - length s = omega arith in
-    ap (λ (k : ℕ). line ++ a ++ take k t) e
-    ∙ append_assoc line a (take (n - length line - length s) t)
-    ∙ ap (λ (x : List ℕ). line ++ x) (sym (take_both (n - length line) s t))
+laid_both line s t =
+    let m = length line.behind in
+    let front : line.text ++ take m s ++ take (length (drop (length s) line.behind)) t ≡ line.text ++ take m (s ++ t) =
+    append_assoc line.text (take m s) (take (length (drop (length s) line.behind)) t)
+    ∙ ap (λ (i : ℕ). line.text ++ (take m s ++ take i t)) (length-drop (length s) line.behind)
+    ∙ ap (λ (x : List ℕ). line.text ++ x) (sym (take_both m s t)) in
+    let back : drop (length t) (drop (length s) line.behind) ≡ drop (length (s ++ t)) line.behind =
+    drop-drop (length t) (length s) line.behind ∙ ap (λ (i : ℕ). drop i line.behind) (sym (length-append s t)) in
+    ap₂ (λ (x y : List ℕ). record line { text = x; behind = y }) front back
 
-pub laid_none : (n : ℕ) (line : List ℕ) → laid n line [] ≡ line
+pub laid_none : (line : Lent) → laid line [] ≡ line
 unfolding laid
-laid_none n line = search rules
+laid_none line = ap (λ (x : List ℕ). record line { text = x }) none
+  where
+    none : line.text ++ take (length line.behind) [] ≡ line.text
+    none = search rules
 
 -- what closes a function that lays texts one behind the other, by tests or with none
 pub ruleset lines = (laid_both, laid_none)
@@ -81,52 +120,56 @@ spaces_more n = rw add-one (later n)
 -- what closes a loop that lays f 0, f 1, .. besides
 pub ruleset gathered = (laid_both, laid_none, gather_none, gather_more)
 
--- ---- what a new line holds
+-- ---- what a line holds of which nothing was laid before
 
-pub laid_new : (n : ℕ) (s : List ℕ) → laid n [] s ≡ take n s
+pub laid_new : (line : Lent) (s : List ℕ) → line.text ≡ [] → (laid line s).text ≡ take (length line.behind) s
 unfolding laid
-laid_new n s = ap (λ (k : ℕ). take k s) (sub-zero n)
+laid_new line s e = ap (λ (x : List ℕ). x ++ take (length line.behind) s) e
 
-pub laid_whole : (n : ℕ) (s : List ℕ) → length s ≤ n → laid n [] s ≡ s
-laid_whole n s h = laid_new n s ∙ take_all n s h
+pub laid_whole : (line : Lent) (s : List ℕ) → line.text ≡ [] → length s ≤ length line.behind → (laid line s).text ≡ s
+laid_whole line s e h = laid_new line s e ∙ take_all (length line.behind) s h
 
 -- where the line is not full, all of the text is there
-pub laid_fits : (n : ℕ) (line s : List ℕ) → length (laid n line s) < n → laid n line s ≡ line ++ s
+pub laid_fits : (line : Lent) (s : List ℕ) → full (laid line s) ≡ false → (laid line s).text ≡ line.text ++ s
 unfolding laid
-laid_fits n line s h =
-    let k = n - length line in
-    ⊎_elim
-    (λ l.
-    let m : length (take k s) ≡ k = length-take-le k s (omega arith) in
-    let e : length (line ++ take k s) ≡ length line + k = rw (length-append, m) refl in
-    absurd (omega arith))
-    (λ l. ap (λ (t : List ℕ). line ++ t) (take_all k s l))
-    (below_or_not k (length s))
+laid_fits line s h =
+    let k = length line.behind in
+    let d = length-drop (length s) line.behind in
+    ap
+    (λ (x : List ℕ). line.text ++ x)
+    (⊎_elim
+    (λ l. let z : length (drop (length s) line.behind) ≡ 0 = omega arith in absurd (eqb-false _ 0 h z))
+    (λ l. take_all k s l)
+    (below_or_not k (length s)))
 
 -- ---- a text that asks how wide the one before it is: what was laid of it tells, since where it does not, nothing has room any more
 
-pub laid_width : (n : ℕ) (line s : List ℕ) (f : ℕ → List ℕ) → laid n (laid n line s) (f (length (laid n line s) - length line)) ≡ laid n line (s ++ f (length s))
+pub no_room : (line : Lent) (s t : List ℕ) → length line.behind ≡ 0 → laid line s ≡ laid line t
 unfolding laid
-laid_width n line s f =
-    let k = n - length line in
-    let m = line ++ take k s in
-    let l = length-append line (take k s) in
+no_room line s t e =
+    let nothing : (x : List ℕ) → drop (length x) line.behind ≡ line.behind =
+    λ x. drop_of_length-le line.behind {i = length x} (omega arith) ∙ sym (drop_of_length-le line.behind {i = 0} (omega arith)) in
+    ap₂ (λ (x y : List ℕ). record line { text = line.text ++ x; behind = y }) (ap (λ (i : ℕ). take i s) e ∙ sym (ap (λ (i : ℕ). take i t) e)) (nothing s ∙ sym (nothing t))
+
+pub laid_width : (line : Lent) (s : List ℕ) (f : ℕ → List ℕ) → laid (laid line s) (f (length (laid line s).text - length line.text)) ≡ laid line (s ++ f (length s))
+unfolding laid
+laid_width line s f =
+    let k = length line.behind in
+    let l = length-append line.text (take k s) in
+    let w = length (line.text ++ take k s) - length line.text in
     ⊎_elim
     (λ h.
-    let c : length (take k s) ≡ k = length-take-le k s (omega arith) in
-    let z : n - length m ≡ 0 = omega arith in
-    let nothing : laid n m (f (length m - length line)) ≡ laid n m (f (length s)) =
-    ap (λ (i : ℕ). m ++ take i (f (length m - length line))) z ∙ sym (ap (λ (i : ℕ). m ++ take i (f (length s))) z) in
-    nothing ∙ laid_both n line s (f (length s)))
+    let d = length-drop (length s) line.behind in
+    no_room (laid line s) (f w) (f (length s)) (omega arith) ∙ laid_both line s (f (length s)))
     (λ h.
     let c : length (take k s) ≡ length s = ap length (take_all k s h) in
-    let w : length m - length line ≡ length s = omega arith in
-    ap (λ (i : ℕ). laid n m (f i)) w ∙ laid_both n line s (f (length s)))
+    let e : w ≡ length s = omega arith in
+    ap (λ (i : ℕ). laid (laid line s) (f i)) e ∙ laid_both line s (f (length s)))
     (below_or_not k (length s))
 
 -- ---- by search, where a function's texts are too long for the set above
 
-pub laid_then : (n : ℕ) (line s t : List ℕ) {mid fin : List ℕ} → mid ≡ laid n line s → fin ≡ laid n mid t → fin ≡ laid n line (s ++ t)
-laid_then n line s t e f = f ∙ ap (λ (l : List ℕ). laid n l t) e ∙ laid_both n line s t
+pub laid_then : (line : Lent) (s t : List ℕ) {mid fin : Lent} → mid ≡ laid line s → fin ≡ laid mid t → fin ≡ laid line (s ++ t)
+laid_then line s t e f = f ∙ ap (λ (l : Lent). laid l t) e ∙ laid_both line s t
 
 pub ruleset long_lines = (rules, laid_then)

@@ -6,3 +6,4 @@ pub mod Named
 pub mod Puts
 pub mod Quote
 pub mod Line
+pub mod Seen

@@ -27,9 +27,11 @@ pub fn tell(rt: &HostRuntime, s: &[u8]) {
 
 // Writes to standard error what failed, and why: `RACK: No such file or directory`.
 pub fn fail(rt: &HostRuntime, name: &[u8], why: io::Error) {
-    let mut words = Line::<ROOM>::new();
+    let mut room = [0u8; ROOM];
+    let mut words = Line::new(&mut room);
     let _ = write!(words, "{why}");
-    let mut line = Line::<272>::new();
+    let mut out = [0u8; 272];
+    let mut line = Line::new(&mut out);
     line.put(b": ");
     if why.raw_os_error().is_some() {
         line.put(before_number(words.text()));

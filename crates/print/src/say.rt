@@ -20,7 +20,8 @@ pub fn line_end(rt: &HostRuntime) {
 
 // n in decimal. A number that cannot be written is not told.
 pub fn print_number(rt: &HostRuntime, n: u64) {
-    let mut line = Line::<20>::new();
+    let mut room = [0u8; 20];
+    let mut line = Line::new(&mut room);
     line.decimal(n);
     let _ = rt.write_all(line.text());
 }
@@ -33,7 +34,8 @@ pub fn say_number(rt: &HostRuntime, s: &[u8], n: u64) {
 
 // Two capitals.
 pub fn print_byte(rt: &HostRuntime, b: u8) {
-    let mut line = Line::<2>::new();
+    let mut room = [0u8; 2];
+    let mut line = Line::new(&mut room);
     line.byte(b);
     say(rt, line.text());
 }
@@ -46,7 +48,8 @@ pub fn say_byte(rt: &HostRuntime, s: &[u8], b: u8) {
 
 // A UID, given low byte first: high byte first.
 pub fn print_uid(rt: &HostRuntime, u: [u8; 8]) {
-    let mut line = Line::<16>::new();
+    let mut room = [0u8; 16];
+    let mut line = Line::new(&mut room);
     line.uid(u);
     say(rt, line.text());
 }
@@ -56,7 +59,8 @@ pub fn print_bytes(rt: &HostRuntime, s: &[u8]) {
     if let Some((first, others)) = s.split_first() {
         print_byte(rt, *first);
         for part in others.chunks(32) {
-            let mut line = Line::<96>::new();
+            let mut room = [0u8; 96];
+            let mut line = Line::new(&mut room);
             line.hex(part);
             say(rt, line.text());
         }

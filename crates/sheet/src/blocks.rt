@@ -1,6 +1,7 @@
 // The line of a block, and a tag's first line.
 ghost use Rattle.std.specs.Prelude.{◌≡◌};
 ghost use Rattle.print.specs.Line.{laid};
+ghost use Rattle.print.specs.Seen.{seen};
 ghost use Rattle.print.specs.Hex.{uid_text};
 ghost use Rattle.sheet.specs.Blocks.{shown, shown_text, block_front, block_line, counter_line, all_zero, tag_line};
 
@@ -18,8 +19,8 @@ fn as_shown(b: u8) -> u8
 
 // Bytes as ASCII.
 #[tactic(auto, using(print::proofs::Lines::lines, crate::proofs::BlocksShown::shown_more))]
-pub fn put_shown<const N: usize>(line: &mut Line<N>, s: &[u8])
-    ensures { line.new ≡ laid N line.old (shown_text s.now) }
+pub fn put_shown(line: &mut Line, s: &[u8])
+    ensures { seen line.new ≡ laid (seen line.old) (shown_text s.now) }
 {
     for b in s {
         line.put(&[as_shown(*b)]);
@@ -27,8 +28,8 @@ pub fn put_shown<const N: usize>(line: &mut Line<N>, s: &[u8])
 }
 
 #[tactic(auto, using(print::proofs::Lines::lines), unfolding(crate::specs::Blocks::block_front))]
-fn put_block_front<const N: usize>(line: &mut Line<N>, n: u8, s: &[u8], locked: bool)
-    ensures { line.new ≡ laid N line.old (block_front n s.now locked) }
+fn put_block_front(line: &mut Line, n: u8, s: &[u8], locked: bool)
+    ensures { seen line.new ≡ laid (seen line.old) (block_front n s.now locked) }
 {
     line.put(b"  ");
     line.decimal(n as u64);
@@ -39,8 +40,8 @@ fn put_block_front<const N: usize>(line: &mut Line<N>, n: u8, s: &[u8], locked: 
 }
 
 #[tactic(auto, using(print::proofs::Lines::lines), unfolding(crate::specs::Blocks::block_line))]
-pub fn put_block_line<const N: usize>(line: &mut Line<N>, n: u8, s: &[u8], locked: bool)
-    ensures { line.new ≡ laid N line.old (block_line n s.now locked) }
+pub fn put_block_line(line: &mut Line, n: u8, s: &[u8], locked: bool)
+    ensures { seen line.new ≡ laid (seen line.old) (block_line n s.now locked) }
 {
     put_block_front(line, n, s, locked);
     put_shown(line, s);
@@ -48,14 +49,8 @@ pub fn put_block_line<const N: usize>(line: &mut Line<N>, n: u8, s: &[u8], locke
 }
 
 #[tactic(auto, using(print::proofs::Lines::lines), unfolding(crate::specs::Blocks::counter_line))]
-pub fn put_counter_line<const N: usize>(
-    line: &mut Line<N>,
-    n: u8,
-    s: &[u8],
-    locked: bool,
-    counter: u32,
-)
-    ensures { line.new ≡ laid N line.old (counter_line n s.now locked counter) }
+pub fn put_counter_line(line: &mut Line, n: u8, s: &[u8], locked: bool, counter: u32)
+    ensures { seen line.new ≡ laid (seen line.old) (counter_line n s.now locked counter) }
 {
     put_block_front(line, n, s, locked);
     line.put(b"counter ");
@@ -71,8 +66,8 @@ pub fn is_all_zero(s: &[u8]) -> bool
 
 // What kind of tag it is, its UID, and that it is tag i.
 #[tactic(auto, using(print::proofs::Lines::lines), unfolding(crate::specs::Blocks::tag_line))]
-pub fn put_tag_line<const N: usize>(line: &mut Line<N>, word: &[u8], uid: [u8; 8], i: usize)
-    ensures { line.new ≡ laid N line.old (tag_line word.now (uid_text uid) i) }
+pub fn put_tag_line(line: &mut Line, word: &[u8], uid: [u8; 8], i: usize)
+    ensures { seen line.new ≡ laid (seen line.old) (tag_line word.now (uid_text uid) i) }
 {
     line.put(word);
     line.uid(uid);

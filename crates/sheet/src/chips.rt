@@ -2,6 +2,7 @@
 ghost use Rattle.std.specs.Prelude.{◌≡◌, ◌≤◌, length};
 ghost use Rattle.frame.specs.Choose.{gather};
 ghost use Rattle.print.specs.Line.{laid};
+ghost use Rattle.print.specs.Seen.{seen};
 ghost use Rattle.sheet.specs.Chips.{id_field, option_fields, chip_line, chip_head, as_new, counter?, chip_block_line, chip_block, chip_text};
 
 use crate::blocks::{put_block_line, put_counter_line, put_tag_line};
@@ -11,16 +12,16 @@ use chip_body::body::{block_of, bytes_of, load, uid_of};
 use print::line::Line;
 
 #[tactic(auto, using(print::proofs::Lines::lines), unfolding(crate::specs::Chips::id_field))]
-fn put_id_field<const N: usize>(line: &mut Line<N>, c: Chip)
-    ensures { line.new ≡ laid N line.old (id_field c) }
+fn put_id_field(line: &mut Line, c: Chip)
+    ensures { seen line.new ≡ laid (seen line.old) (id_field c) }
 {
     line.put(b"  id ");
     line.byte(c.id);
 }
 
 #[tactic(auto, using(print::proofs::Lines::lines), unfolding(crate::specs::Chips::option_fields))]
-fn put_option_fields<const N: usize>(line: &mut Line<N>, c: Chip)
-    ensures { line.new ≡ laid N line.old (option_fields c) }
+fn put_option_fields(line: &mut Line, c: Chip)
+    ensures { seen line.new ≡ laid (seen line.old) (option_fields c) }
 {
     line.put(b"  fixed ");
     put_yes_or_no(line, c.fixed);
@@ -29,8 +30,8 @@ fn put_option_fields<const N: usize>(line: &mut Line<N>, c: Chip)
 }
 
 #[tactic(auto, using(print::proofs::Lines::lines), unfolding(crate::specs::Chips::chip_line))]
-fn put_chip_line<const N: usize>(line: &mut Line<N>, c: Chip)
-    ensures { line.new ≡ laid N line.old (chip_line c) }
+fn put_chip_line(line: &mut Line, c: Chip)
+    ensures { seen line.new ≡ laid (seen line.old) (chip_line c) }
 {
     line.put(b"  state ");
     put_chip_state(line, c.state);
@@ -41,9 +42,9 @@ fn put_chip_line<const N: usize>(line: &mut Line<N>, c: Chip)
 
 // A chip's first two lines; it is tag i.
 #[tactic(auto, using(print::proofs::Lines::lines), unfolding(crate::specs::Chips::chip_head))]
-pub fn put_chip_head<const N: usize>(line: &mut Line<N>, i: usize, body: &[u8])
+pub fn put_chip_head(line: &mut Line, i: usize, body: &[u8])
     requires { 80 ≤ length body.now }
-    ensures { line.new ≡ laid N line.old (chip_head i body.now) }
+    ensures { seen line.new ≡ laid (seen line.old) (chip_head i body.now) }
 {
     put_tag_line(line, b"chip ", uid_of(body), i);
     put_chip_line(line, load(body));
@@ -68,9 +69,9 @@ fn is_counter(a: u8) -> bool
 }
 
 #[tactic(auto, using(print::proofs::Lines::lines), unfolding(crate::specs::Chips::chip_block_line))]
-fn put_chip_block_line<const N: usize>(line: &mut Line<N>, body: &[u8], a: u8, locked: bool)
+fn put_chip_block_line(line: &mut Line, body: &[u8], a: u8, locked: bool)
     requires { 80 ≤ length body.now }
-    ensures { line.new ≡ laid N line.old (chip_block_line body.now a locked) }
+    ensures { seen line.new ≡ laid (seen line.old) (chip_block_line body.now a locked) }
 {
     let bytes = bytes_of(body, a);
     if is_counter(a) {
@@ -82,9 +83,9 @@ fn put_chip_block_line<const N: usize>(line: &mut Line<N>, body: &[u8], a: u8, l
 
 // The line of block a, if it has one.
 #[tactic(auto, using(print::proofs::Lines::lines), unfolding(crate::specs::Chips::chip_block))]
-pub fn put_chip_block<const N: usize>(line: &mut Line<N>, body: &[u8], a: u8)
+pub fn put_chip_block(line: &mut Line, body: &[u8], a: u8)
     requires { 80 ≤ length body.now }
-    ensures { line.new ≡ laid N line.old (chip_block body.now a) }
+    ensures { seen line.new ≡ laid (seen line.old) (chip_block body.now a) }
 {
     let locked = is_locked(block_of(body, 255), a);
     if locked || !is_as_new(a, block_of(body, a)) {
@@ -93,9 +94,9 @@ pub fn put_chip_block<const N: usize>(line: &mut Line<N>, body: &[u8], a: u8)
 }
 
 #[tactic(auto, using(print::proofs::Lines::gathered))]
-fn put_chip_blocks<const N: usize>(line: &mut Line<N>, body: &[u8])
+fn put_chip_blocks(line: &mut Line, body: &[u8])
     requires { 80 ≤ length body.now }
-    ensures { line.new ≡ laid N line.old (gather 16 (chip_block body.now)) }
+    ensures { seen line.new ≡ laid (seen line.old) (gather 16 (chip_block body.now)) }
 {
     for a in 0..16 {
         put_chip_block(line, body, a);
@@ -104,9 +105,9 @@ fn put_chip_blocks<const N: usize>(line: &mut Line<N>, body: &[u8])
 
 // A chip, which is tag i.
 #[tactic(auto, using(print::proofs::Lines::lines), unfolding(crate::specs::Chips::chip_text))]
-pub fn put_chip<const N: usize>(line: &mut Line<N>, i: usize, body: &[u8])
+pub fn put_chip(line: &mut Line, i: usize, body: &[u8])
     requires { 80 ≤ length body.now }
-    ensures { line.new ≡ laid N line.old (chip_text i body.now) }
+    ensures { seen line.new ≡ laid (seen line.old) (chip_text i body.now) }
 {
     put_chip_head(line, i, body);
     put_chip_blocks(line, body);

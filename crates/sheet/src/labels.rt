@@ -6,6 +6,7 @@ ghost use Rattle.frame.specs.Ending.{bytes_for};
 ghost use Rattle.label_body.specs.Body.{Sized, load_of, blocks_of};
 ghost use Rattle.print.specs.Hex.{uid_text};
 ghost use Rattle.print.specs.Line.{laid};
+ghost use Rattle.print.specs.Seen.{seen};
 ghost use Rattle.sheet.specs.Labels.{mask_text, mask_field, slot_field, afi_field, dsfid_field, ic_field, byte_fields, label_line, blocks_line, label_head};
 ghost use Rattle.sheet.specs.Labels.{label_block, label_text};
 
@@ -18,8 +19,8 @@ use label_body::locks::lock_on;
 use print::line::Line;
 
 // The bytes of a mask of so many bits.
-fn put_mask_bytes<const N: usize>(line: &mut Line<N>, bits: u8, mask: u64)
-    ensures { line.new ≡ laid N line.old (uid_text (bytes_of (bytes_for bits) mask)) }
+fn put_mask_bytes(line: &mut Line, bits: u8, mask: u64)
+    ensures { seen line.new ≡ laid (seen line.old) (uid_text (bytes_of (bytes_for bits) mask)) }
 {
     let mut bytes = [0u8; 32];
     put_number(&mut bytes, 0, mask, 32);
@@ -29,8 +30,8 @@ fn put_mask_bytes<const N: usize>(line: &mut Line<N>, bits: u8, mask: u64)
 
 // A mask.
 #[tactic(auto, using(print::proofs::Lines::lines), unfolding(crate::specs::Labels::mask_text))]
-pub fn put_mask<const N: usize>(line: &mut Line<N>, bits: u8, mask: u64)
-    ensures { line.new ≡ laid N line.old (mask_text bits mask) }
+pub fn put_mask(line: &mut Line, bits: u8, mask: u64)
+    ensures { seen line.new ≡ laid (seen line.old) (mask_text bits mask) }
 {
     line.decimal(bits as u64);
     line.put(b"/");
@@ -38,8 +39,8 @@ pub fn put_mask<const N: usize>(line: &mut Line<N>, bits: u8, mask: u64)
 }
 
 #[tactic(auto, using(print::proofs::Lines::lines), unfolding(crate::specs::Labels::mask_field))]
-fn put_mask_field<const N: usize>(line: &mut Line<N>, bits: u8, mask: u64)
-    ensures { line.new ≡ laid N line.old (mask_field bits mask) }
+fn put_mask_field(line: &mut Line, bits: u8, mask: u64)
+    ensures { seen line.new ≡ laid (seen line.old) (mask_field bits mask) }
 {
     if bits != 0 {
         line.put(b"  mask ");
@@ -48,8 +49,8 @@ fn put_mask_field<const N: usize>(line: &mut Line<N>, bits: u8, mask: u64)
 }
 
 #[tactic(auto, using(print::proofs::Lines::lines), unfolding(crate::specs::Labels::slot_field))]
-fn put_slot_field<const N: usize>(line: &mut Line<N>, l: Label)
-    ensures { line.new ≡ laid N line.old (slot_field l) }
+fn put_slot_field(line: &mut Line, l: Label)
+    ensures { seen line.new ≡ laid (seen line.old) (slot_field l) }
 {
     if l.slot != 255 {
         line.put(b"  slot ");
@@ -59,8 +60,8 @@ fn put_slot_field<const N: usize>(line: &mut Line<N>, l: Label)
 }
 
 #[tactic(auto, using(print::proofs::Lines::lines), unfolding(crate::specs::Labels::afi_field))]
-fn put_afi_field<const N: usize>(line: &mut Line<N>, l: Label)
-    ensures { line.new ≡ laid N line.old (afi_field l) }
+fn put_afi_field(line: &mut Line, l: Label)
+    ensures { seen line.new ≡ laid (seen line.old) (afi_field l) }
 {
     line.put(b"  afi ");
     line.byte(l.afi);
@@ -68,8 +69,8 @@ fn put_afi_field<const N: usize>(line: &mut Line<N>, l: Label)
 }
 
 #[tactic(auto, using(print::proofs::Lines::lines), unfolding(crate::specs::Labels::dsfid_field))]
-fn put_dsfid_field<const N: usize>(line: &mut Line<N>, l: Label)
-    ensures { line.new ≡ laid N line.old (dsfid_field l) }
+fn put_dsfid_field(line: &mut Line, l: Label)
+    ensures { seen line.new ≡ laid (seen line.old) (dsfid_field l) }
 {
     line.put(b"  dsfid ");
     line.byte(l.dsfid);
@@ -77,16 +78,16 @@ fn put_dsfid_field<const N: usize>(line: &mut Line<N>, l: Label)
 }
 
 #[tactic(auto, using(print::proofs::Lines::lines), unfolding(crate::specs::Labels::ic_field))]
-fn put_ic_field<const N: usize>(line: &mut Line<N>, l: Label)
-    ensures { line.new ≡ laid N line.old (ic_field l) }
+fn put_ic_field(line: &mut Line, l: Label)
+    ensures { seen line.new ≡ laid (seen line.old) (ic_field l) }
 {
     line.put(b"  ic ");
     line.byte(l.ic);
 }
 
 #[tactic(auto, using(print::proofs::Lines::lines), unfolding(crate::specs::Labels::byte_fields))]
-fn put_byte_fields<const N: usize>(line: &mut Line<N>, l: Label)
-    ensures { line.new ≡ laid N line.old (byte_fields l) }
+fn put_byte_fields(line: &mut Line, l: Label)
+    ensures { seen line.new ≡ laid (seen line.old) (byte_fields l) }
 {
     put_afi_field(line, l);
     put_dsfid_field(line, l);
@@ -94,8 +95,8 @@ fn put_byte_fields<const N: usize>(line: &mut Line<N>, l: Label)
 }
 
 #[tactic(auto, using(print::proofs::Lines::lines), unfolding(crate::specs::Labels::label_line))]
-fn put_label_line<const N: usize>(line: &mut Line<N>, l: Label)
-    ensures { line.new ≡ laid N line.old (label_line l) }
+fn put_label_line(line: &mut Line, l: Label)
+    ensures { seen line.new ≡ laid (seen line.old) (label_line l) }
 {
     line.put(b"  state ");
     put_label_state(line, l.state);
@@ -105,8 +106,8 @@ fn put_label_line<const N: usize>(line: &mut Line<N>, l: Label)
 }
 
 #[tactic(auto, using(print::proofs::Lines::lines), unfolding(crate::specs::Labels::blocks_line))]
-fn put_blocks_line<const N: usize>(line: &mut Line<N>, l: Label)
-    ensures { line.new ≡ laid N line.old (blocks_line l) }
+fn put_blocks_line(line: &mut Line, l: Label)
+    ensures { seen line.new ≡ laid (seen line.old) (blocks_line l) }
 {
     line.put(b"  blocks ");
     line.decimal(l.blocks as u64 + 1);
@@ -117,8 +118,8 @@ fn put_blocks_line<const N: usize>(line: &mut Line<N>, l: Label)
 
 // A label's first three lines; it is tag i.
 #[tactic(auto, using(print::proofs::Lines::lines), unfolding(crate::specs::Labels::label_head))]
-pub fn put_label_head<const N: usize>(line: &mut Line<N>, i: usize, l: Label)
-    ensures { line.new ≡ laid N line.old (label_head i l) }
+pub fn put_label_head(line: &mut Line, i: usize, l: Label)
+    ensures { seen line.new ≡ laid (seen line.old) (label_head i l) }
 {
     put_tag_line(line, b"label ", l.uid, i);
     put_label_line(line, l);
@@ -127,9 +128,9 @@ pub fn put_label_head<const N: usize>(line: &mut Line<N>, i: usize, l: Label)
 
 // The line of block n, if it has one.
 #[tactic(auto, using(print::proofs::Lines::lines), unfolding(crate::specs::Labels::label_block))]
-pub fn put_label_block<const N: usize>(line: &mut Line<N>, body: &[u8], n: u8)
+pub fn put_label_block(line: &mut Line, body: &[u8], n: u8)
     requires { Sized body.now × (n ≤ get_or body.now 11 0) }
-    ensures { line.new ≡ laid N line.old (label_block body.now n) }
+    ensures { seen line.new ≡ laid (seen line.old) (label_block body.now n) }
 {
     let bytes = block(body, n);
     let locked = lock_on(body, n) == 1;
@@ -139,9 +140,9 @@ pub fn put_label_block<const N: usize>(line: &mut Line<N>, body: &[u8], n: u8)
 }
 
 #[tactic(auto, using(print::proofs::Lines::gathered))]
-fn put_label_blocks<const N: usize>(line: &mut Line<N>, body: &[u8], blocks: usize)
+fn put_label_blocks(line: &mut Line, body: &[u8], blocks: usize)
     requires { Sized body.now × (blocks ≡ blocks_of body.now) }
-    ensures { line.new ≡ laid N line.old (gather blocks (label_block body.now)) }
+    ensures { seen line.new ≡ laid (seen line.old) (gather blocks (label_block body.now)) }
 {
     for n in 0..blocks {
         put_label_block(line, body, n as u8);
@@ -150,9 +151,9 @@ fn put_label_blocks<const N: usize>(line: &mut Line<N>, body: &[u8], blocks: usi
 
 // A label, which is tag i.
 #[tactic(auto, using(print::proofs::Lines::lines, label_body::proofs::BodyRoom::sized_long), unfolding(crate::specs::Labels::label_text, label_body::specs::Body::load_of))]
-pub fn put_label<const N: usize>(line: &mut Line<N>, i: usize, body: &[u8])
+pub fn put_label(line: &mut Line, i: usize, body: &[u8])
     requires { Sized body.now }
-    ensures { line.new ≡ laid N line.old (label_text i body.now) }
+    ensures { seen line.new ≡ laid (seen line.old) (label_text i body.now) }
 {
     let l = load(body);
     put_label_head(line, i, l);

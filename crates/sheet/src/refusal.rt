@@ -1,6 +1,7 @@
 // Why a rack is refused, in words.
 ghost use Rattle.std.specs.Prelude.{◌≡◌, ◌-◌};
 ghost use Rattle.print.specs.Line.{laid};
+ghost use Rattle.print.specs.Seen.{seen};
 ghost use Rattle.sheet.specs.Refusal.{head_words, entry_words, lock_words, label_words, chip_words, body_words, tag_words, held_words, rule_words, words_for, place_of, refusal_text};
 
 use chip_body::field as chip_field;
@@ -11,8 +12,8 @@ use rack::place::{entry_holding, holder, within_entry};
 use rack::tag::Kind;
 
 #[tactic(auto, using(print::proofs::Lines::lines), unfolding(crate::specs::Refusal::head_words))]
-fn put_head_words<const N: usize>(line: &mut Line<N>, place: usize)
-    ensures { line.new ≡ laid N line.old (head_words place) }
+fn put_head_words(line: &mut Line, place: usize)
+    ensures { seen line.new ≡ laid (seen line.old) (head_words place) }
 {
     line.put(match place {
         0 => b"edition is not 1",
@@ -21,8 +22,8 @@ fn put_head_words<const N: usize>(line: &mut Line<N>, place: usize)
 }
 
 #[tactic(auto, using(print::proofs::Lines::lines), unfolding(crate::specs::Refusal::entry_words))]
-fn put_entry_words<const N: usize>(line: &mut Line<N>, k: usize)
-    ensures { line.new ≡ laid N line.old (entry_words k) }
+fn put_entry_words(line: &mut Line, k: usize)
+    ensures { seen line.new ≡ laid (seen line.old) (entry_words k) }
 {
     line.put(match k {
         0 => b"kind is neither 1 nor 2",
@@ -33,8 +34,8 @@ fn put_entry_words<const N: usize>(line: &mut Line<N>, k: usize)
 }
 
 #[tactic(auto, using(print::proofs::Lines::lines), unfolding(crate::specs::Refusal::label_words, crate::specs::Refusal::lock_words, print::specs::Named::word_number))]
-fn put_label_words<const N: usize>(line: &mut Line<N>, field: label_field::Field)
-    ensures { line.new ≡ laid N line.old (label_words field) }
+fn put_label_words(line: &mut Line, field: label_field::Field)
+    ensures { seen line.new ≡ laid (seen line.old) (label_words field) }
 {
     match field {
         label_field::Field::Other => {}
@@ -51,8 +52,8 @@ fn put_label_words<const N: usize>(line: &mut Line<N>, field: label_field::Field
 }
 
 #[tactic(auto, using(print::proofs::Lines::lines), unfolding(crate::specs::Refusal::chip_words))]
-fn put_chip_words<const N: usize>(line: &mut Line<N>, field: chip_field::Field)
-    ensures { line.new ≡ laid N line.old (chip_words field) }
+fn put_chip_words(line: &mut Line, field: chip_field::Field)
+    ensures { seen line.new ≡ laid (seen line.old) (chip_words field) }
 {
     line.put(match field {
         chip_field::Field::Other => b"",
@@ -64,8 +65,8 @@ fn put_chip_words<const N: usize>(line: &mut Line<N>, field: chip_field::Field)
 }
 
 #[tactic(auto, using(print::proofs::Lines::lines), unfolding(crate::specs::Refusal::body_words))]
-fn put_body_words<const N: usize>(line: &mut Line<N>, kind: Kind, place: usize)
-    ensures { line.new ≡ laid N line.old (body_words kind place) }
+fn put_body_words(line: &mut Line, kind: Kind, place: usize)
+    ensures { seen line.new ≡ laid (seen line.old) (body_words kind place) }
 {
     match kind {
         Kind::Label => put_label_words(line, label_field::field_at(place)),
@@ -75,8 +76,8 @@ fn put_body_words<const N: usize>(line: &mut Line<N>, kind: Kind, place: usize)
 }
 
 #[tactic(auto, using(print::proofs::Lines::lines), unfolding(crate::specs::Refusal::tag_words))]
-fn put_tag_words<const N: usize>(line: &mut Line<N>, i: usize)
-    ensures { line.new ≡ laid N line.old (tag_words i) }
+fn put_tag_words(line: &mut Line, i: usize)
+    ensures { seen line.new ≡ laid (seen line.old) (tag_words i) }
 {
     line.put(b"tag ");
     line.decimal(i as u64);
@@ -84,8 +85,8 @@ fn put_tag_words<const N: usize>(line: &mut Line<N>, i: usize)
 }
 
 #[tactic(auto, using(print::proofs::Lines::lines), unfolding(crate::specs::Refusal::held_words))]
-fn put_held_words<const N: usize>(line: &mut Line<N>, rack: &[u8], place: usize)
-    ensures { line.new ≡ laid N line.old (held_words rack.now place) }
+fn put_held_words(line: &mut Line, rack: &[u8], place: usize)
+    ensures { seen line.new ≡ laid (seen line.old) (held_words rack.now place) }
 {
     let h = holder(rack, place);
     put_tag_words(line, h.tag);
@@ -93,8 +94,8 @@ fn put_held_words<const N: usize>(line: &mut Line<N>, rack: &[u8], place: usize)
 }
 
 #[tactic(auto, using(print::proofs::Lines::lines), unfolding(crate::specs::Refusal::rule_words))]
-fn put_rule_words<const N: usize>(line: &mut Line<N>, rack: &[u8], rule: Rule, place: usize)
-    ensures { line.new ≡ laid N line.old (rule_words rack.now rule place) }
+fn put_rule_words(line: &mut Line, rack: &[u8], rule: Rule, place: usize)
+    ensures { seen line.new ≡ laid (seen line.old) (rule_words rack.now rule place) }
 {
     match rule {
         Rule::Length => line.put(b"the file ends here, in the middle of a rack"),
@@ -109,8 +110,8 @@ fn put_rule_words<const N: usize>(line: &mut Line<N>, rack: &[u8], rule: Rule, p
 }
 
 // What a verdict says; one that names no offence has the last words.
-fn put_words_for<const N: usize>(line: &mut Line<N>, rack: &[u8], v: Verdict)
-    ensures { line.new ≡ laid N line.old (words_for rack.now v) }
+fn put_words_for(line: &mut Line, rack: &[u8], v: Verdict)
+    ensures { seen line.new ≡ laid (seen line.old) (words_for rack.now v) }
 {
     match v {
         Err(offence) => put_rule_words(line, rack, offence.rule, offence.place),
@@ -130,8 +131,8 @@ fn place_of(v: Verdict) -> usize
 
 // Why a rack is refused: what a verdict on it says, in one line without its end.
 #[tactic(auto, using(print::proofs::Lines::lines), unfolding(crate::specs::Refusal::refusal_text))]
-pub fn put_refusal<const N: usize>(line: &mut Line<N>, rack: &[u8], v: Verdict)
-    ensures { line.new ≡ laid N line.old (refusal_text rack.now v) }
+pub fn put_refusal(line: &mut Line, rack: &[u8], v: Verdict)
+    ensures { seen line.new ≡ laid (seen line.old) (refusal_text rack.now v) }
 {
     line.put(b"refused 1: byte ");
     line.decimal(place_of(v) as u64);

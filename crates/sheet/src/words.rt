@@ -1,13 +1,14 @@
 // Words that a number or a test chooses.
 ghost use Rattle.std.specs.Prelude.{◌≡◌};
 ghost use Rattle.print.specs.Line.{laid};
+ghost use Rattle.print.specs.Seen.{seen};
 ghost use Rattle.sheet.specs.Words.{label_state, chip_state, yes_or_no, lock_mark, lock_column, blanks_behind, tags_word};
 
 use print::line::Line;
 
 #[tactic(auto, using(print::proofs::Lines::lines), unfolding(crate::specs::Words::label_state))]
-pub fn put_label_state<const N: usize>(line: &mut Line<N>, s: u8)
-    ensures { line.new ≡ laid N line.old (label_state s) }
+pub fn put_label_state(line: &mut Line, s: u8)
+    ensures { seen line.new ≡ laid (seen line.old) (label_state s) }
 {
     line.put(match s {
         0 => b"off",
@@ -18,8 +19,8 @@ pub fn put_label_state<const N: usize>(line: &mut Line<N>, s: u8)
 }
 
 #[tactic(auto, using(print::proofs::Lines::lines), unfolding(crate::specs::Words::chip_state))]
-pub fn put_chip_state<const N: usize>(line: &mut Line<N>, s: u8)
-    ensures { line.new ≡ laid N line.old (chip_state s) }
+pub fn put_chip_state(line: &mut Line, s: u8)
+    ensures { seen line.new ≡ laid (seen line.old) (chip_state s) }
 {
     line.put(match s {
         0 => b"off",
@@ -33,15 +34,15 @@ pub fn put_chip_state<const N: usize>(line: &mut Line<N>, s: u8)
 
 // A choice of two words, and so is `put_tags_word`: one function for both would be given the words, which are all that each says.
 #[tactic(auto, using(print::proofs::Lines::lines), unfolding(crate::specs::Words::yes_or_no))]
-pub fn put_yes_or_no<const N: usize>(line: &mut Line<N>, n: u8)
-    ensures { line.new ≡ laid N line.old (yes_or_no n) }
+pub fn put_yes_or_no(line: &mut Line, n: u8)
+    ensures { seen line.new ≡ laid (seen line.old) (yes_or_no n) }
 {
     line.put(if n == 1 { b"yes" } else { b"no" });
 }
 
 #[tactic(auto, using(print::proofs::Lines::lines), unfolding(crate::specs::Words::lock_mark))]
-pub fn put_lock_mark<const N: usize>(line: &mut Line<N>, locked: bool)
-    ensures { line.new ≡ laid N line.old (lock_mark locked) }
+pub fn put_lock_mark(line: &mut Line, locked: bool)
+    ensures { seen line.new ≡ laid (seen line.old) (lock_mark locked) }
 {
     if locked {
         line.put(b" locked");
@@ -49,15 +50,15 @@ pub fn put_lock_mark<const N: usize>(line: &mut Line<N>, locked: bool)
 }
 
 #[tactic(auto, using(print::proofs::Lines::lines), unfolding(crate::specs::Words::lock_column))]
-pub fn put_lock_column<const N: usize>(line: &mut Line<N>, locked: bool)
-    ensures { line.new ≡ laid N line.old (lock_column locked) }
+pub fn put_lock_column(line: &mut Line, locked: bool)
+    ensures { seen line.new ≡ laid (seen line.old) (lock_column locked) }
 {
     line.put(if locked { b"  locked" } else { b"        " });
 }
 
 #[tactic(auto, using(print::proofs::Lines::lines), unfolding(crate::specs::Words::blanks_behind))]
-pub fn put_blanks_behind<const N: usize>(line: &mut Line<N>, n: u8)
-    ensures { line.new ≡ laid N line.old (blanks_behind n) }
+pub fn put_blanks_behind(line: &mut Line, n: u8)
+    ensures { seen line.new ≡ laid (seen line.old) (blanks_behind n) }
 {
     line.put(match n {
         0..=9 => b"  ",
@@ -67,8 +68,8 @@ pub fn put_blanks_behind<const N: usize>(line: &mut Line<N>, n: u8)
 }
 
 #[tactic(auto, using(print::proofs::Lines::lines), unfolding(crate::specs::Words::tags_word))]
-pub fn put_tags_word<const N: usize>(line: &mut Line<N>, n: usize)
-    ensures { line.new ≡ laid N line.old (tags_word n) }
+pub fn put_tags_word(line: &mut Line, n: usize)
+    ensures { seen line.new ≡ laid (seen line.old) (tags_word n) }
 {
     line.put(if n == 1 { b" tag, " } else { b" tags, " });
 }

@@ -13,9 +13,10 @@ const ROOM: usize = 1048576;
 
 // What is printed of a file, laid into a line and written whole.
 fn show(rt: &HostRuntime, file: &[u8]) {
-    let mut line = Line::<ROOM>::new();
+    let mut room = [0u8; ROOM];
+    let mut line = Line::new(&mut room);
     put_sheet(&mut line, file);
-    if line.len() < ROOM {
+    if !line.is_full() {
         say(rt, line.text());
         return;
     }

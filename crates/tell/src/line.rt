@@ -1,6 +1,7 @@
 // The line of one reply.
 ghost use Rattle.std.specs.Prelude.{◌≡◌};
 ghost use Rattle.print.specs.Line.{laid};
+ghost use Rattle.print.specs.Seen.{seen};
 ghost use Rattle.tell.specs.Lines.{reply_text, front_text, gap_of, beside_text, line_text, event_word, quiet_text};
 
 use crate::meaning::part_of;
@@ -14,8 +15,8 @@ const COLUMN: usize = 60;
 
 // Silence, the answer's bytes, a collision or a refusal, a space in front.
 #[tactic(auto, using(print::proofs::Lines::lines), unfolding(crate::specs::Lines::reply_text))]
-pub fn put_reply<const N: usize>(line: &mut Line<N>, report: Report, answer: &[u8])
-    ensures { line.new ≡ laid N line.old (reply_text report answer.now) }
+pub fn put_reply(line: &mut Line, report: Report, answer: &[u8])
+    ensures { seen line.new ≡ laid (seen line.old) (reply_text report answer.now) }
 {
     if report.number != 0 {
         line.word_number(b" refused ", report.number as u64);
@@ -30,15 +31,8 @@ pub fn put_reply<const N: usize>(line: &mut Line<N>, report: Report, answer: &[u
 
 // Line n: what was asked, and the reply.
 #[tactic(auto, using(print::proofs::Lines::lines), unfolding(crate::specs::Lines::front_text))]
-fn put_front<const N: usize>(
-    line: &mut Line<N>,
-    n: u64,
-    number: u8,
-    signal: Signal,
-    report: Report,
-    answer: &[u8],
-)
-    ensures { line.new ≡ laid N line.old (front_text n number signal report answer.now) }
+fn put_front(line: &mut Line, n: u64, number: u8, signal: Signal, report: Report, answer: &[u8])
+    ensures { seen line.new ≡ laid (seen line.old) (front_text n number signal report answer.now) }
 {
     line.decimal(n);
     line.put(b" ");
@@ -61,8 +55,8 @@ fn gap(width: usize) -> usize
 
 // A meaning behind n spaces, where there is one.
 #[tactic(auto, using(print::proofs::Lines::lines), unfolding(crate::specs::Lines::beside_text))]
-fn put_beside<const N: usize>(line: &mut Line<N>, n: usize, meaning: &[u8])
-    ensures { line.new ≡ laid N line.old (beside_text n meaning.now) }
+fn put_beside(line: &mut Line, n: usize, meaning: &[u8])
+    ensures { seen line.new ≡ laid (seen line.old) (beside_text n meaning.now) }
 {
     if !meaning.is_empty() {
         line.spaces(n);
@@ -72,8 +66,8 @@ fn put_beside<const N: usize>(line: &mut Line<N>, n: usize, meaning: &[u8])
 
 // Line n: what event `number` asked, the reply, and what it means.
 #[tactic(auto, using(print::proofs::Lines::lines, crate::proofs::LineWidth::line_laid, crate::proofs::LineWidth::laid_grows))]
-pub fn put_line<const N: usize>(
-    line: &mut Line<N>,
+pub fn put_line(
+    line: &mut Line,
     n: u64,
     number: u8,
     signal: Signal,
@@ -81,7 +75,7 @@ pub fn put_line<const N: usize>(
     answer: &[u8],
     meaning: &[u8],
 )
-    ensures { line.new ≡ laid N line.old (line_text (front_text n number signal report answer.now) meaning.now) }
+    ensures { seen line.new ≡ laid (seen line.old) (line_text (front_text n number signal report answer.now) meaning.now) }
 {
     let from = line.len();
     put_front(line, n, number, signal, report, answer);
@@ -92,8 +86,8 @@ pub fn put_line<const N: usize>(
 
 // An event's word, by its number.
 #[tactic(auto, using(print::proofs::Lines::lines), unfolding(crate::specs::Lines::event_word))]
-fn put_event<const N: usize>(line: &mut Line<N>, number: u8)
-    ensures { line.new ≡ laid N line.old (event_word number) }
+fn put_event(line: &mut Line, number: u8)
+    ensures { seen line.new ≡ laid (seen line.old) (event_word number) }
 {
     line.put(match number {
         1 => b"off",
@@ -107,14 +101,8 @@ fn put_event<const N: usize>(line: &mut Line<N>, number: u8)
 
 // Line n: the event's word and the reply.
 #[tactic(auto, using(print::proofs::Lines::lines), unfolding(crate::specs::Lines::quiet_text))]
-pub fn put_quiet<const N: usize>(
-    line: &mut Line<N>,
-    n: u64,
-    number: u8,
-    report: Report,
-    answer: &[u8],
-)
-    ensures { line.new ≡ laid N line.old (quiet_text n number report answer.now) }
+pub fn put_quiet(line: &mut Line, n: u64, number: u8, report: Report, answer: &[u8])
+    ensures { seen line.new ≡ laid (seen line.old) (quiet_text n number report answer.now) }
 {
     line.decimal(n);
     line.put(b" ");

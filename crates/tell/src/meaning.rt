@@ -2,6 +2,7 @@
 ghost use Rattle.std.specs.Prelude.{◌≡◌, length};
 ghost use Rattle.frame.specs.Number.{part};
 ghost use Rattle.print.specs.Line.{laid};
+ghost use Rattle.print.specs.Seen.{seen};
 ghost use Rattle.answer.specs.Answer.{Inside};
 ghost use Rattle.tell.specs.Meanings.{writes_block, first_of, denied_words, error_words, error_text, shown_text, lock_text, lock_block_text, found_text};
 ghost use Rattle.tell.specs.Meanings.{sizes_text, info_text, word_text, meant_text, meaning_text, answer_text};
@@ -44,8 +45,8 @@ fn first_of(command: Command) -> u8
 
 // Error 12: of a block that is written, or of anything else.
 #[tactic(auto, using(print::proofs::Lines::lines), unfolding(crate::specs::Meanings::denied_words))]
-fn put_denied<const N: usize>(line: &mut Line<N>, writes: bool)
-    ensures { line.new ≡ laid N line.old (denied_words writes) }
+fn put_denied(line: &mut Line, writes: bool)
+    ensures { seen line.new ≡ laid (seen line.old) (denied_words writes) }
 {
     if writes {
         line.put(b": block is locked");
@@ -56,8 +57,8 @@ fn put_denied<const N: usize>(line: &mut Line<N>, writes: bool)
 
 // What an error says.
 #[tactic(auto, using(print::proofs::Lines::lines), unfolding(crate::specs::Meanings::error_words))]
-fn put_error_words<const N: usize>(line: &mut Line<N>, writes: bool, code: u8)
-    ensures { line.new ≡ laid N line.old (error_words writes code) }
+fn put_error_words(line: &mut Line, writes: bool, code: u8)
+    ensures { seen line.new ≡ laid (seen line.old) (error_words writes code) }
 {
     match code {
         0x01 => line.put(b": no such command"),
@@ -71,8 +72,8 @@ fn put_error_words<const N: usize>(line: &mut Line<N>, writes: bool, code: u8)
 }
 
 #[tactic(auto, using(print::proofs::Lines::lines), unfolding(crate::specs::Meanings::error_text))]
-fn put_error<const N: usize>(line: &mut Line<N>, writes: bool, code: u8)
-    ensures { line.new ≡ laid N line.old (error_text writes code) }
+fn put_error(line: &mut Line, writes: bool, code: u8)
+    ensures { seen line.new ≡ laid (seen line.old) (error_text writes code) }
 {
     line.word_byte(b"error ", code);
     put_error_words(line, writes, code);
@@ -80,8 +81,8 @@ fn put_error<const N: usize>(line: &mut Line<N>, writes: bool, code: u8)
 
 // A lead and bytes as text, where every byte shows.
 #[tactic(auto, using(print::proofs::Lines::lines), unfolding(crate::specs::Meanings::shown_text))]
-fn put_shown<const N: usize>(line: &mut Line<N>, lead: &[u8], s: &[u8])
-    ensures { line.new ≡ laid N line.old (shown_text lead.now s.now) }
+fn put_shown(line: &mut Line, lead: &[u8], s: &[u8])
+    ensures { seen line.new ≡ laid (seen line.old) (shown_text lead.now s.now) }
 {
     if is_printable(s) {
         line.put(lead);
@@ -90,8 +91,8 @@ fn put_shown<const N: usize>(line: &mut Line<N>, lead: &[u8], s: &[u8])
 }
 
 #[tactic(auto, using(print::proofs::Lines::lines), unfolding(crate::specs::Meanings::lock_text))]
-fn put_lock<const N: usize>(line: &mut Line<N>, lock: u8)
-    ensures { line.new ≡ laid N line.old (lock_text lock) }
+fn put_lock(line: &mut Line, lock: u8)
+    ensures { seen line.new ≡ laid (seen line.old) (lock_text lock) }
 {
     if lock == 0 {
         line.put(b"not locked");
@@ -101,8 +102,8 @@ fn put_lock<const N: usize>(line: &mut Line<N>, lock: u8)
 }
 
 #[tactic(auto, using(print::proofs::Lines::lines), unfolding(crate::specs::Meanings::found_text))]
-fn put_found<const N: usize>(line: &mut Line<N>, uid: [u8; 8], dsfid: u8)
-    ensures { line.new ≡ laid N line.old (found_text uid dsfid) }
+fn put_found(line: &mut Line, uid: [u8; 8], dsfid: u8)
+    ensures { seen line.new ≡ laid (seen line.old) (found_text uid dsfid) }
 {
     line.uid(uid);
     line.word_byte(b", DSFID ", dsfid);
@@ -110,24 +111,16 @@ fn put_found<const N: usize>(line: &mut Line<N>, uid: [u8; 8], dsfid: u8)
 
 // How many blocks of how many bytes; both are given less 1.
 #[tactic(auto, using(print::proofs::Lines::lines), unfolding(crate::specs::Meanings::sizes_text))]
-fn put_sizes<const N: usize>(line: &mut Line<N>, blocks: u8, size: u8)
-    ensures { line.new ≡ laid N line.old (sizes_text blocks size) }
+fn put_sizes(line: &mut Line, blocks: u8, size: u8)
+    ensures { seen line.new ≡ laid (seen line.old) (sizes_text blocks size) }
 {
     line.word_number(b", ", blocks as u64 + 1);
     line.word_number(b" blocks of ", size as u64 + 1);
 }
 
 #[tactic(auto, using(print::proofs::Lines::lines), unfolding(crate::specs::Meanings::info_text))]
-fn put_info<const N: usize>(
-    line: &mut Line<N>,
-    uid: [u8; 8],
-    dsfid: u8,
-    afi: u8,
-    blocks: u8,
-    size: u8,
-    ic: u8,
-)
-    ensures { line.new ≡ laid N line.old (info_text uid dsfid afi blocks size ic) }
+fn put_info(line: &mut Line, uid: [u8; 8], dsfid: u8, afi: u8, blocks: u8, size: u8, ic: u8)
+    ensures { seen line.new ≡ laid (seen line.old) (info_text uid dsfid afi blocks size ic) }
 {
     put_found(line, uid, dsfid);
     line.word_byte(b", AFI ", afi);
@@ -137,16 +130,16 @@ fn put_info<const N: usize>(
 
 // A chip's block: as a number, and as text where its bytes show.
 #[tactic(auto, using(print::proofs::Lines::lines), unfolding(crate::specs::Meanings::word_text))]
-fn put_chip_word<const N: usize>(line: &mut Line<N>, w: u32)
-    ensures { line.new ≡ laid N line.old (word_text w) }
+fn put_chip_word(line: &mut Line, w: u32)
+    ensures { seen line.new ≡ laid (seen line.old) (word_text w) }
 {
     line.decimal(w as u64);
     put_shown(line, b", ", &w.to_le_bytes());
 }
 
 #[tactic(auto, using(print::proofs::Lines::lines), unfolding(crate::specs::Meanings::lock_block_text))]
-fn put_lock_block<const N: usize>(line: &mut Line<N>, lock: u8, s: &[u8])
-    ensures { line.new ≡ laid N line.old (lock_block_text lock s.now) }
+fn put_lock_block(line: &mut Line, lock: u8, s: &[u8])
+    ensures { seen line.new ≡ laid (seen line.old) (lock_block_text lock s.now) }
 {
     put_lock(line, lock);
     put_shown(line, b", ", s);
@@ -154,16 +147,9 @@ fn put_lock_block<const N: usize>(line: &mut Line<N>, lock: u8, s: &[u8])
 
 // A meaning; `first` is the block that was asked for first.
 #[tactic(auto, using(print::proofs::Lines::lines), unfolding(crate::specs::Meanings::meant_text))]
-fn put_meant<const N: usize>(
-    line: &mut Line<N>,
-    writes: bool,
-    first: u8,
-    meaning: Meaning,
-    uid: [u8; 8],
-    frame: &[u8],
-)
+fn put_meant(line: &mut Line, writes: bool, first: u8, meaning: Meaning, uid: [u8; 8], frame: &[u8])
     requires { Inside meaning (length frame.now) }
-    ensures { line.new ≡ laid N line.old (meant_text writes first meaning uid frame.now) }
+    ensures { seen line.new ≡ laid (seen line.old) (meant_text writes first meaning uid frame.now) }
 {
     match meaning {
         Meaning::Refused(_) => line.put(b"not an answer to this"),
@@ -212,9 +198,9 @@ fn put_meant<const N: usize>(
 
 // What the reading of a frame as an answer to a command means.
 #[tactic(auto, using(print::proofs::Lines::lines), unfolding(crate::specs::Meanings::meaning_text))]
-fn put_meaning<const N: usize>(line: &mut Line<N>, command: Command, reading: Reading, frame: &[u8])
+fn put_meaning(line: &mut Line, command: Command, reading: Reading, frame: &[u8])
     requires { Inside reading.meaning (length frame.now) }
-    ensures { line.new ≡ laid N line.old (meaning_text command reading frame.now) }
+    ensures { seen line.new ≡ laid (seen line.old) (meaning_text command reading frame.now) }
 {
     let writes = writes_block(command);
     let first = first_of(command);
@@ -223,8 +209,8 @@ fn put_meaning<const N: usize>(line: &mut Line<N>, command: Command, reading: Re
 
 // What a frame means as an answer to event `number`.
 #[tactic(auto, using(print::proofs::Lines::lines), unfolding(crate::specs::Meanings::answer_text))]
-pub fn put_answer<const N: usize>(line: &mut Line<N>, number: u8, signal: Signal, frame: &[u8])
-    ensures { line.new ≡ laid N line.old (answer_text number signal frame.now) }
+pub fn put_answer(line: &mut Line, number: u8, signal: Signal, frame: &[u8])
+    ensures { seen line.new ≡ laid (seen line.old) (answer_text number signal frame.now) }
 {
     let reading = reading_of(number, signal, frame);
     put_meaning(line, command_of(number, signal), reading, frame);

@@ -1,6 +1,7 @@
 // What an event asks, in words.
 ghost use Rattle.std.specs.Prelude.{◌≡◌};
 ghost use Rattle.print.specs.Line.{laid};
+ghost use Rattle.print.specs.Seen.{seen};
 ghost use Rattle.tell.specs.Names.{target_text, block_of, read_text, byte_of, range_text, read_many_text, status_text, task_text, do_text};
 ghost use Rattle.tell.specs.Names.{slots_text, family_text, bits_text, mask_text, inventory_text, call_text, order_text, name_text};
 
@@ -14,8 +15,8 @@ use request::table::Task;
 // ---- labels
 
 #[tactic(auto, using(print::proofs::Lines::lines), unfolding(crate::specs::Names::target_text))]
-fn put_target<const N: usize>(line: &mut Line<N>, to: Target, uid: [u8; 8])
-    ensures { line.new ≡ laid N line.old (target_text to uid) }
+fn put_target(line: &mut Line, to: Target, uid: [u8; 8])
+    ensures { seen line.new ≡ laid (seen line.old) (target_text to uid) }
 {
     match to {
         Target::Everyone => line.put(b"all"),
@@ -26,16 +27,16 @@ fn put_target<const N: usize>(line: &mut Line<N>, to: Target, uid: [u8; 8])
 
 // What is done to block n.
 #[tactic(auto, using(print::proofs::Lines::lines), unfolding(crate::specs::Names::block_of))]
-fn put_block_of<const N: usize>(line: &mut Line<N>, s: &[u8], n: u8)
-    ensures { line.new ≡ laid N line.old (block_of s.now n) }
+fn put_block_of(line: &mut Line, s: &[u8], n: u8)
+    ensures { seen line.new ≡ laid (seen line.old) (block_of s.now n) }
 {
     line.word_number(s, n as u64);
     line.put(b" of ");
 }
 
 #[tactic(auto, using(print::proofs::Lines::lines), unfolding(crate::specs::Names::read_text))]
-fn put_read<const N: usize>(line: &mut Line<N>, n: u8, option: bool)
-    ensures { line.new ≡ laid N line.old (read_text n option) }
+fn put_read(line: &mut Line, n: u8, option: bool)
+    ensures { seen line.new ≡ laid (seen line.old) (read_text n option) }
 {
     if option {
         line.word_number(b"read block ", n as u64);
@@ -47,8 +48,8 @@ fn put_read<const N: usize>(line: &mut Line<N>, n: u8, option: bool)
 
 // What is made of byte b.
 #[tactic(auto, using(print::proofs::Lines::lines), unfolding(crate::specs::Names::byte_of))]
-fn put_byte_of<const N: usize>(line: &mut Line<N>, s: &[u8], b: u8)
-    ensures { line.new ≡ laid N line.old (byte_of s.now b) }
+fn put_byte_of(line: &mut Line, s: &[u8], b: u8)
+    ensures { seen line.new ≡ laid (seen line.old) (byte_of s.now b) }
 {
     line.word_byte(s, b);
     line.put(b" of ");
@@ -56,16 +57,16 @@ fn put_byte_of<const N: usize>(line: &mut Line<N>, s: &[u8], b: u8)
 
 // A first block and a last one.
 #[tactic(auto, using(print::proofs::Lines::lines), unfolding(crate::specs::Names::range_text))]
-fn put_range<const N: usize>(line: &mut Line<N>, s: &[u8], p: Params)
-    ensures { line.new ≡ laid N line.old (range_text s.now p) }
+fn put_range(line: &mut Line, s: &[u8], p: Params)
+    ensures { seen line.new ≡ laid (seen line.old) (range_text s.now p) }
 {
     line.word_number(s, p.first as u64);
     line.word_number(b" to ", p.first as u64 + p.second as u64);
 }
 
 #[tactic(auto, using(print::proofs::Lines::lines), unfolding(crate::specs::Names::read_many_text))]
-fn put_read_many<const N: usize>(line: &mut Line<N>, p: Params, option: bool)
-    ensures { line.new ≡ laid N line.old (read_many_text p option) }
+fn put_read_many(line: &mut Line, p: Params, option: bool)
+    ensures { seen line.new ≡ laid (seen line.old) (read_many_text p option) }
 {
     put_range(line, b"read blocks ", p);
     if option {
@@ -76,16 +77,16 @@ fn put_read_many<const N: usize>(line: &mut Line<N>, p: Params, option: bool)
 }
 
 #[tactic(auto, using(print::proofs::Lines::lines), unfolding(crate::specs::Names::status_text))]
-fn put_status<const N: usize>(line: &mut Line<N>, p: Params)
-    ensures { line.new ≡ laid N line.old (status_text p) }
+fn put_status(line: &mut Line, p: Params)
+    ensures { seen line.new ≡ laid (seen line.old) (status_text p) }
 {
     put_range(line, b"status of blocks ", p);
     line.put(b" of ");
 }
 
 #[tactic(auto, using(print::proofs::Lines::lines), unfolding(crate::specs::Names::task_text))]
-fn put_task<const N: usize>(line: &mut Line<N>, task: Task, p: Params, option: bool)
-    ensures { line.new ≡ laid N line.old (task_text task p option) }
+fn put_task(line: &mut Line, task: Task, p: Params, option: bool)
+    ensures { seen line.new ≡ laid (seen line.old) (task_text task p option) }
 {
     match task {
         Task::Quiet => line.put(b"quiet "),
@@ -105,23 +106,16 @@ fn put_task<const N: usize>(line: &mut Line<N>, task: Task, p: Params, option: b
 }
 
 #[tactic(auto, using(print::proofs::Lines::lines), unfolding(crate::specs::Names::do_text))]
-fn put_do<const N: usize>(
-    line: &mut Line<N>,
-    to: Target,
-    uid: [u8; 8],
-    task: Task,
-    p: Params,
-    option: bool,
-)
-    ensures { line.new ≡ laid N line.old (do_text to uid task p option) }
+fn put_do(line: &mut Line, to: Target, uid: [u8; 8], task: Task, p: Params, option: bool)
+    ensures { seen line.new ≡ laid (seen line.old) (do_text to uid task p option) }
 {
     put_task(line, task, p, option);
     put_target(line, to, uid);
 }
 
 #[tactic(auto, using(print::proofs::Lines::lines), unfolding(crate::specs::Names::slots_text))]
-fn put_slots<const N: usize>(line: &mut Line<N>, sixteen: bool)
-    ensures { line.new ≡ laid N line.old (slots_text sixteen) }
+fn put_slots(line: &mut Line, sixteen: bool)
+    ensures { seen line.new ≡ laid (seen line.old) (slots_text sixteen) }
 {
     line.put(if sixteen {
         b"inventory 16"
@@ -131,8 +125,8 @@ fn put_slots<const N: usize>(line: &mut Line<N>, sixteen: bool)
 }
 
 #[tactic(auto, using(print::proofs::Lines::lines), unfolding(crate::specs::Names::family_text))]
-fn put_family<const N: usize>(line: &mut Line<N>, family: Family)
-    ensures { line.new ≡ laid N line.old (family_text family) }
+fn put_family(line: &mut Line, family: Family)
+    ensures { seen line.new ≡ laid (seen line.old) (family_text family) }
 {
     match family {
         Family::Any => {}
@@ -142,8 +136,8 @@ fn put_family<const N: usize>(line: &mut Line<N>, family: Family)
 
 // A mask's bits, high byte first, in as few bytes as hold them.
 #[tactic(auto, using(print::proofs::Lines::lines), unfolding(crate::specs::Names::bits_text))]
-fn put_bits<const N: usize>(line: &mut Line<N>, bits: u8, mask: u64)
-    ensures { line.new ≡ laid N line.old (bits_text bits mask) }
+fn put_bits(line: &mut Line, bits: u8, mask: u64)
+    ensures { seen line.new ≡ laid (seen line.old) (bits_text bits mask) }
 {
     let mut low = [0u8; 32];
     let few = (bits as usize + 7) / 8;
@@ -152,8 +146,8 @@ fn put_bits<const N: usize>(line: &mut Line<N>, bits: u8, mask: u64)
 }
 
 #[tactic(auto, using(print::proofs::Lines::lines), unfolding(crate::specs::Names::mask_text))]
-fn put_mask<const N: usize>(line: &mut Line<N>, bits: u8, mask: u64)
-    ensures { line.new ≡ laid N line.old (mask_text bits mask) }
+fn put_mask(line: &mut Line, bits: u8, mask: u64)
+    ensures { seen line.new ≡ laid (seen line.old) (mask_text bits mask) }
 {
     if bits != 0 {
         line.word_number(b" mask ", bits as u64);
@@ -163,14 +157,8 @@ fn put_mask<const N: usize>(line: &mut Line<N>, bits: u8, mask: u64)
 }
 
 #[tactic(auto, using(print::proofs::Lines::lines), unfolding(crate::specs::Names::inventory_text))]
-fn put_inventory<const N: usize>(
-    line: &mut Line<N>,
-    family: Family,
-    sixteen: bool,
-    bits: u8,
-    mask: u64,
-)
-    ensures { line.new ≡ laid N line.old (inventory_text family sixteen bits mask) }
+fn put_inventory(line: &mut Line, family: Family, sixteen: bool, bits: u8, mask: u64)
+    ensures { seen line.new ≡ laid (seen line.old) (inventory_text family sixteen bits mask) }
 {
     put_slots(line, sixteen);
     put_family(line, family);
@@ -178,8 +166,8 @@ fn put_inventory<const N: usize>(
 }
 
 #[tactic(auto, using(print::proofs::Lines::lines), unfolding(crate::specs::Names::call_text))]
-fn put_call<const N: usize>(line: &mut Line<N>, uid: [u8; 8], call: Call)
-    ensures { line.new ≡ laid N line.old (call_text uid call) }
+fn put_call(line: &mut Line, uid: [u8; 8], call: Call)
+    ensures { seen line.new ≡ laid (seen line.old) (call_text uid call) }
 {
     match call {
         Call::Ignored => line.put(b"event"),
@@ -197,8 +185,8 @@ fn put_call<const N: usize>(line: &mut Line<N>, uid: [u8; 8], call: Call)
 // ---- chips
 
 #[tactic(auto, using(print::proofs::Lines::lines), unfolding(crate::specs::Names::order_text))]
-fn put_order<const N: usize>(line: &mut Line<N>, order: Order)
-    ensures { line.new ≡ laid N line.old (order_text order) }
+fn put_order(line: &mut Line, order: Order)
+    ensures { seen line.new ≡ laid (seen line.old) (order_text order) }
 {
     match order {
         Order::Ignored => line.put(b"chip"),
@@ -218,8 +206,8 @@ fn put_order<const N: usize>(line: &mut Line<N>, order: Order)
 
 // What event `number` asks.
 #[tactic(auto, using(print::proofs::Lines::lines), unfolding(crate::specs::Names::name_text))]
-pub fn put_name<const N: usize>(line: &mut Line<N>, number: u8, signal: Signal)
-    ensures { line.new ≡ laid N line.old (name_text number signal) }
+pub fn put_name(line: &mut Line, number: u8, signal: Signal)
+    ensures { seen line.new ≡ laid (seen line.old) (name_text number signal) }
 {
     if number == 5 {
         put_order(line, signal.chip);

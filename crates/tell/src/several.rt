@@ -1,6 +1,7 @@
 // Several blocks of a frame, in words.
 ghost use Rattle.std.specs.Prelude.{◌≡◌, ◌+◌, ◌*◌, ◌<◌, ◌≤◌, length};
 ghost use Rattle.print.specs.Line.{laid};
+ghost use Rattle.print.specs.Seen.{seen};
 ghost use Rattle.print.specs.Quote.{printable};
 ghost use Rattle.tell.specs.Meanings.{blocks_text, piece_at, pieces_of, pieces_text, lock_at, unlocked, locked_one, locked_numbers, locked_text};
 ghost use Rattle.tell.specs.Meanings.{plain_blocks_text, locked_blocks_text, locks_text};
@@ -43,8 +44,8 @@ impl<'a> Blocks<'a, 1> {
 
 // So many blocks of so many bytes.
 #[tactic(auto, using(print::proofs::Lines::lines), unfolding(crate::specs::Meanings::blocks_text))]
-fn put_blocks<const N: usize>(line: &mut Line<N>, count: usize, long: usize)
-    ensures { line.new ≡ laid N line.old (blocks_text count long) }
+fn put_blocks(line: &mut Line, count: usize, long: usize)
+    ensures { seen line.new ≡ laid (seen line.old) (blocks_text count long) }
 {
     line.decimal(count as u64);
     line.word_number(b" blocks of ", long as u64);
@@ -67,8 +68,8 @@ fn are_printable<const GAP: usize>(blocks: &Blocks<'_, GAP>) -> bool
 
 // The bytes, one block behind the other.
 #[tactic(auto, using(print::proofs::Lines::gathered), unfolding(crate::specs::Meanings::pieces_of))]
-fn put_pieces<const GAP: usize, const N: usize>(line: &mut Line<N>, blocks: &Blocks<'_, GAP>)
-    ensures { line.new ≡ laid N line.old (pieces_of blocks.now.place GAP blocks.now.long blocks.now.count blocks.now.frame.now) }
+fn put_pieces<const GAP: usize>(line: &mut Line, blocks: &Blocks<'_, GAP>)
+    ensures { seen line.new ≡ laid (seen line.old) (pieces_of blocks.now.place GAP blocks.now.long blocks.now.count blocks.now.frame.now) }
 {
     for i in 0..blocks.count {
         line.put(blocks.piece(i));
@@ -77,8 +78,8 @@ fn put_pieces<const GAP: usize, const N: usize>(line: &mut Line<N>, blocks: &Blo
 
 // The bytes as text, where every byte shows.
 #[tactic(auto, using(print::proofs::Lines::lines), unfolding(crate::specs::Meanings::pieces_text, crate::specs::Meanings::shown_text, print::specs::Quote::quoted_text))]
-fn put_shown_pieces<const GAP: usize, const N: usize>(line: &mut Line<N>, blocks: &Blocks<'_, GAP>)
-    ensures { line.new ≡ laid N line.old (pieces_text blocks.now.place GAP blocks.now.long blocks.now.count blocks.now.frame.now) }
+fn put_shown_pieces<const GAP: usize>(line: &mut Line, blocks: &Blocks<'_, GAP>)
+    ensures { seen line.new ≡ laid (seen line.old) (pieces_text blocks.now.place GAP blocks.now.long blocks.now.count blocks.now.frame.now) }
 {
     if are_printable(blocks) {
         line.put(b", \"");
@@ -104,8 +105,8 @@ fn are_unlocked(blocks: &Blocks<'_, 1>) -> bool
 
 // The number of a block that is locked, or nothing.
 #[tactic(auto, using(print::proofs::Lines::lines), unfolding(crate::specs::Meanings::locked_one))]
-fn put_number<const N: usize>(line: &mut Line<N>, lock: u8, number: u64)
-    ensures { line.new ≡ laid N line.old (locked_one lock number) }
+fn put_number(line: &mut Line, lock: u8, number: u64)
+    ensures { seen line.new ≡ laid (seen line.old) (locked_one lock number) }
 {
     if lock != 0 {
         line.word_number(b" ", number);
@@ -114,8 +115,8 @@ fn put_number<const N: usize>(line: &mut Line<N>, lock: u8, number: u64)
 
 // The numbers of the blocks that are locked; the first has number `first`.
 #[tactic(auto, using(print::proofs::Lines::gathered), unfolding(crate::specs::Meanings::locked_numbers))]
-fn put_numbers<const N: usize>(line: &mut Line<N>, blocks: &Blocks<'_, 1>, first: u8)
-    ensures { line.new ≡ laid N line.old (locked_numbers first blocks.now.place blocks.now.long blocks.now.count blocks.now.frame.now) }
+fn put_numbers(line: &mut Line, blocks: &Blocks<'_, 1>, first: u8)
+    ensures { seen line.new ≡ laid (seen line.old) (locked_numbers first blocks.now.place blocks.now.long blocks.now.count blocks.now.frame.now) }
 {
     for i in 0..blocks.count {
         put_number(line, blocks.lock(i), first as u64 + i as u64);
@@ -124,8 +125,8 @@ fn put_numbers<const N: usize>(line: &mut Line<N>, blocks: &Blocks<'_, 1>, first
 
 // Which blocks are locked.
 #[tactic(auto, using(print::proofs::Lines::lines), unfolding(crate::specs::Meanings::locked_text))]
-fn put_locked<const N: usize>(line: &mut Line<N>, blocks: &Blocks<'_, 1>, first: u8)
-    ensures { line.new ≡ laid N line.old (locked_text first blocks.now.place blocks.now.long blocks.now.count blocks.now.frame.now) }
+fn put_locked(line: &mut Line, blocks: &Blocks<'_, 1>, first: u8)
+    ensures { seen line.new ≡ laid (seen line.old) (locked_text first blocks.now.place blocks.now.long blocks.now.count blocks.now.frame.now) }
 {
     if are_unlocked(blocks) {
         line.put(b", none locked");
@@ -139,8 +140,8 @@ fn put_locked<const N: usize>(line: &mut Line<N>, blocks: &Blocks<'_, 1>, first:
 
 // Blocks one behind the other.
 #[tactic(auto, using(print::proofs::Lines::lines), unfolding(crate::specs::Meanings::plain_blocks_text))]
-pub fn put_plain_blocks<const N: usize>(line: &mut Line<N>, blocks: &Blocks<'_, 0>)
-    ensures { line.new ≡ laid N line.old (plain_blocks_text blocks.now.place blocks.now.long blocks.now.count blocks.now.frame.now) }
+pub fn put_plain_blocks(line: &mut Line, blocks: &Blocks<'_, 0>)
+    ensures { seen line.new ≡ laid (seen line.old) (plain_blocks_text blocks.now.place blocks.now.long blocks.now.count blocks.now.frame.now) }
 {
     put_blocks(line, blocks.count, blocks.long);
     put_shown_pieces(line, blocks);
@@ -148,8 +149,8 @@ pub fn put_plain_blocks<const N: usize>(line: &mut Line<N>, blocks: &Blocks<'_, 
 
 // Blocks with a lock byte before each; the first has number `first`.
 #[tactic(auto, using(print::proofs::Lines::lines), unfolding(crate::specs::Meanings::locked_blocks_text))]
-pub fn put_locked_blocks<const N: usize>(line: &mut Line<N>, blocks: &Blocks<'_, 1>, first: u8)
-    ensures { line.new ≡ laid N line.old (locked_blocks_text first blocks.now.place blocks.now.long blocks.now.count blocks.now.frame.now) }
+pub fn put_locked_blocks(line: &mut Line, blocks: &Blocks<'_, 1>, first: u8)
+    ensures { seen line.new ≡ laid (seen line.old) (locked_blocks_text first blocks.now.place blocks.now.long blocks.now.count blocks.now.frame.now) }
 {
     put_blocks(line, blocks.count, blocks.long);
     put_locked(line, blocks, first);
@@ -158,9 +159,9 @@ pub fn put_locked_blocks<const N: usize>(line: &mut Line<N>, blocks: &Blocks<'_,
 
 // Lock bytes alone: blocks of which no byte is told.
 #[tactic(auto, using(print::proofs::Lines::lines), unfolding(crate::specs::Meanings::locks_text))]
-pub fn put_locks<const N: usize>(line: &mut Line<N>, locks: &Blocks<'_, 1>, first: u8)
+pub fn put_locks(line: &mut Line, locks: &Blocks<'_, 1>, first: u8)
     requires { locks.now.long ≡ 0 }
-    ensures { line.new ≡ laid N line.old (locks_text first locks.now.place locks.now.count locks.now.frame.now) }
+    ensures { seen line.new ≡ laid (seen line.old) (locks_text first locks.now.place locks.now.count locks.now.frame.now) }
 {
     line.decimal(locks.count as u64);
     line.put(b" blocks");

@@ -90,14 +90,12 @@ fn move_in(rt: &HostRuntime, name: &[u8], path: &[u8], bytes: &[u8]) -> io::Resu
 }
 
 // The name beside a path: a dot and six digits behind it.
-fn name_beside(path: &[u8], draw: [u8; 3]) -> Line<NAME_MAX> {
-    let mut name = Line::new();
+fn put_name(name: &mut Line, path: &[u8], draw: [u8; 3]) {
     name.put(path);
     name.put(b".");
     for b in draw {
         name.byte(b);
     }
-    name
 }
 
 // Puts a new file in the place of a path.
@@ -107,7 +105,9 @@ fn replace(rt: &HostRuntime, path: &[u8], bytes: &[u8]) -> io::Result<()> {
     }
     let mut draw = [0u8; 3];
     rt.fill_bytes(&mut draw)?;
-    let name = name_beside(path, draw);
+    let mut room = [0u8; NAME_MAX];
+    let mut name = Line::new(&mut room);
+    put_name(&mut name, path, draw);
     move_in(rt, name.text(), path, bytes)
 }
 

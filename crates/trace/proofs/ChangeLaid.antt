@@ -11,7 +11,7 @@ use Rattle.frame.proofs.Bools.{below_or_not, and_false, and_true}
 use Rattle.frame.specs.Number.{part}
 use Rattle.frame.specs.Choose.{gather}
 use Rattle.frame.proofs.Lists.{gather_more}
-use Rattle.print.specs.Line.{laid}
+use Rattle.print.specs.Line.{Lent, laid, marked}
 use Rattle.print.proofs.Lines.{laid_both, laid_none}
 use Rattle.chip_body.specs.Body.{place_of}
 use Rattle.rack.proofs.FilePlaces.{span_part}
@@ -73,22 +73,32 @@ coloned_taken zero s = refl
 coloned_taken (suc k) [] = refl
 coloned_taken (suc k) (c ∷ s) = refl
 
-pub coloned_laid : (n : ℕ) (old s : List ℕ) → set (laid n old s) (length old) 58 ≡ laid n old (coloned s)
+coloned_long : (s : List ℕ) → length (coloned s) ≡ length s
+unfolding coloned
+coloned_long [] = refl
+coloned_long (c ∷ s) = refl
+
+pub coloned_laid : (line : Lent) (s : List ℕ) → marked (laid line s) (length line.text) 58 ≡ laid line (coloned s)
 unfolding laid
-coloned_laid n old s = set_end old (take (n - length old) s) 58 ∙ ap (λ (l : List ℕ). old ++ l) (coloned_taken (n - length old) s)
+coloned_laid line s =
+    let k = length line.behind in
+    ap₂
+    (λ (x : List ℕ) (n : ℕ). record line { text = x; behind = drop n line.behind })
+    (set_end line.text (take k s) 58 ∙ ap (λ (l : List ℕ). line.text ++ l) (coloned_taken k s))
+    (sym (coloned_long s))
 
 -- ---- a loop that lays f 0, f 1, ..: one more, and one that is nothing
 
-module _ (n : ℕ) (line : List ℕ) (f : ℕ → List ℕ) (i : ℕ) {mid : List ℕ} (p : mid ≡ laid n line (gather i f)) where
-  pub gathered_on : {new : List ℕ} → new ≡ laid n mid (f i) → new ≡ laid n line (gather (i + 1) f)
+module _ (line : Lent) (f : ℕ → List ℕ) (i : ℕ) {mid : Lent} (p : mid ≡ laid line (gather i f)) where
+  pub gathered_on : {new : Lent} → new ≡ laid mid (f i) → new ≡ laid line (gather (i + 1) f)
   gathered_on q =
       q
-      ∙ ap (λ (l : List ℕ). laid n l (f i)) p
-      ∙ laid_both n line (gather i f) (f i)
-      ∙ ap (laid n line) (sym (gather_more i f))
+      ∙ ap (λ (l : Lent). laid l (f i)) p
+      ∙ laid_both line (gather i f) (f i)
+      ∙ ap (laid line) (sym (gather_more i f))
 
-  pub gathered_past : f i ≡ [] → mid ≡ laid n line (gather (i + 1) f)
-  gathered_past e = gathered_on (sym (laid_none n mid) ∙ ap (laid n mid) (sym e))
+  pub gathered_past : f i ≡ [] → mid ≡ laid line (gather (i + 1) f)
+  gathered_past e = gathered_on (sym (laid_none mid) ∙ ap (laid mid) (sym e))
 
 -- ---- what was read
 

@@ -1,7 +1,8 @@
 // The words of one change. A change opens with a comma; the first of a line has its comma made a colon.
-ghost use Rattle.std.specs.Prelude.{◌≡◌, ◌+◌, ◌≤◌, [], ◌∷◌, length, get_or, set};
+ghost use Rattle.std.specs.Prelude.{◌≡◌, ◌+◌, ◌≤◌, [], ◌∷◌, length, get_or};
 ghost use Rattle.print.specs.Hex.{uid_text};
-ghost use Rattle.print.specs.Line.{laid};
+ghost use Rattle.print.specs.Line.{laid, marked};
+ghost use Rattle.print.specs.Seen.{seen};
 ghost use Rattle.trace.specs.Change.{when_text, changed_text, byte_change, rose, same_bytes, block_name, quoted_block, hex_block, content_text, lock_text};
 ghost use Rattle.trace.specs.Change.{lock_change};
 
@@ -11,8 +12,8 @@ use print::quote::is_printable;
 
 // Words, where something is so.
 #[tactic(auto, using(print::proofs::Lines::lines), unfolding(crate::specs::Change::when_text))]
-pub fn put_when<const N: usize>(line: &mut Line<N>, told: bool, s: &[u8])
-    ensures { line.new ≡ laid N line.old (when_text told s.now) }
+pub fn put_when(line: &mut Line, told: bool, s: &[u8])
+    ensures { seen line.new ≡ laid (seen line.old) (when_text told s.now) }
 {
     if told {
         line.put(s);
@@ -21,8 +22,8 @@ pub fn put_when<const N: usize>(line: &mut Line<N>, told: bool, s: &[u8])
 
 // A name and a byte.
 #[tactic(auto, using(print::proofs::Lines::lines), unfolding(crate::specs::Change::changed_text))]
-fn put_changed<const N: usize>(line: &mut Line<N>, name: &[u8], b: u8)
-    ensures { line.new ≡ laid N line.old (changed_text name.now b) }
+fn put_changed(line: &mut Line, name: &[u8], b: u8)
+    ensures { seen line.new ≡ laid (seen line.old) (changed_text name.now b) }
 {
     line.put(name);
     line.byte(b);
@@ -30,14 +31,8 @@ fn put_changed<const N: usize>(line: &mut Line<N>, name: &[u8], b: u8)
 
 // Byte i, by its name, where it changed.
 #[tactic(auto, using(print::proofs::Lines::lines), unfolding(crate::specs::Change::byte_change))]
-pub fn put_byte_change<const N: usize>(
-    line: &mut Line<N>,
-    name: &[u8],
-    a: &[u8],
-    b: &[u8],
-    i: usize,
-)
-    ensures { line.new ≡ laid N line.old (byte_change name.now (get_or a.now i 0) (get_or b.now i 0)) }
+pub fn put_byte_change(line: &mut Line, name: &[u8], a: &[u8], b: &[u8], i: usize)
+    ensures { seen line.new ≡ laid (seen line.old) (byte_change name.now (get_or a.now i 0) (get_or b.now i 0)) }
 {
     let new = byte_at(b, i);
     if byte_at(a, i) != new {
@@ -70,16 +65,16 @@ pub fn same_bytes(a: &[u8], b: &[u8], at: usize, n: usize) -> bool
 }
 
 #[tactic(auto, using(print::proofs::Lines::lines), unfolding(crate::specs::Change::block_name))]
-fn put_block_name<const N: usize>(line: &mut Line<N>, n: u8)
-    ensures { line.new ≡ laid N line.old (block_name n) }
+fn put_block_name(line: &mut Line, n: u8)
+    ensures { seen line.new ≡ laid (seen line.old) (block_name n) }
 {
     line.put(b", block ");
     line.decimal(n as u64);
 }
 
 #[tactic(auto, using(print::proofs::Lines::lines), unfolding(crate::specs::Change::quoted_block))]
-fn put_quoted_block<const N: usize>(line: &mut Line<N>, n: u8, s: &[u8])
-    ensures { line.new ≡ laid N line.old (quoted_block n s.now) }
+fn put_quoted_block(line: &mut Line, n: u8, s: &[u8])
+    ensures { seen line.new ≡ laid (seen line.old) (quoted_block n s.now) }
 {
     put_block_name(line, n);
     line.put(b" ");
@@ -87,8 +82,8 @@ fn put_quoted_block<const N: usize>(line: &mut Line<N>, n: u8, s: &[u8])
 }
 
 #[tactic(auto, using(print::proofs::Lines::lines), unfolding(crate::specs::Change::hex_block))]
-fn put_hex_block<const N: usize>(line: &mut Line<N>, n: u8, s: &[u8])
-    ensures { line.new ≡ laid N line.old (hex_block n s.now) }
+fn put_hex_block(line: &mut Line, n: u8, s: &[u8])
+    ensures { seen line.new ≡ laid (seen line.old) (hex_block n s.now) }
 {
     put_block_name(line, n);
     line.hex(s);
@@ -96,8 +91,8 @@ fn put_hex_block<const N: usize>(line: &mut Line<N>, n: u8, s: &[u8])
 
 // Block n and its bytes, as text where they can be read.
 #[tactic(auto, using(print::proofs::Lines::lines), unfolding(crate::specs::Change::content_text))]
-pub fn put_content<const N: usize>(line: &mut Line<N>, n: u8, s: &[u8])
-    ensures { line.new ≡ laid N line.old (content_text n s.now) }
+pub fn put_content(line: &mut Line, n: u8, s: &[u8])
+    ensures { seen line.new ≡ laid (seen line.old) (content_text n s.now) }
 {
     if is_printable(s) {
         put_quoted_block(line, n, s);
@@ -107,8 +102,8 @@ pub fn put_content<const N: usize>(line: &mut Line<N>, n: u8, s: &[u8])
 }
 
 #[tactic(auto, using(print::proofs::Lines::lines), unfolding(crate::specs::Change::lock_text))]
-fn put_lock<const N: usize>(line: &mut Line<N>, n: u8)
-    ensures { line.new ≡ laid N line.old (lock_text n) }
+fn put_lock(line: &mut Line, n: u8)
+    ensures { seen line.new ≡ laid (seen line.old) (lock_text n) }
 {
     put_block_name(line, n);
     line.put(b" locked");
@@ -116,8 +111,8 @@ fn put_lock<const N: usize>(line: &mut Line<N>, n: u8)
 
 // That block n is locked, where it is so now and was not.
 #[tactic(auto, using(print::proofs::Lines::lines), unfolding(crate::specs::Change::lock_change))]
-pub fn put_lock_change<const N: usize>(line: &mut Line<N>, old: bool, new: bool, n: u8)
-    ensures { line.new ≡ laid N line.old (lock_change old new n) }
+pub fn put_lock_change(line: &mut Line, old: bool, new: bool, n: u8)
+    ensures { seen line.new ≡ laid (seen line.old) (lock_change old new n) }
 {
     if is_new(old, new) {
         put_lock(line, n);
@@ -126,9 +121,9 @@ pub fn put_lock_change<const N: usize>(line: &mut Line<N>, old: bool, new: bool,
 
 // A tag's line is opened, by its kind and UID; the place where its changes start.
 #[tactic(auto, using(print::proofs::Lines::lines))]
-pub fn open_line<const N: usize>(line: &mut Line<N>, kind: &[u8], uid: [u8; 8]) -> usize
-    ensures opened { line.new ≡ laid N (laid N line.old kind.now) (uid_text uid) }
-    ensures start { result ≡ length line.new }
+pub fn open_line(line: &mut Line, kind: &[u8], uid: [u8; 8]) -> usize
+    ensures opened { seen line.new ≡ laid (laid (seen line.old) kind.now) (uid_text uid) }
+    ensures start { result ≡ length (seen line.new).text }
 {
     line.put(kind);
     line.uid(uid);
@@ -137,8 +132,8 @@ pub fn open_line<const N: usize>(line: &mut Line<N>, kind: &[u8], uid: [u8; 8]) 
 
 // It is closed: the comma that stands first among its changes is made a colon.
 #[tactic(auto, using(print::proofs::Lines::lines))]
-pub fn close_line<const N: usize>(line: &mut Line<N>, from: usize)
-    ensures { line.new ≡ laid N (set line.old from 58) (10 ∷ []) }
+pub fn close_line(line: &mut Line, from: usize)
+    ensures { seen line.new ≡ laid (marked (seen line.old) from 58) (10 ∷ []) }
 {
     line.set(from, b':');
     line.put(b"\n");

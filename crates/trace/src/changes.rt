@@ -1,6 +1,7 @@
 // What an event changed: a line for each tag whose told fields are others.
 ghost use Rattle.std.specs.Prelude.{◌≡◌, ◌≤◌, ◌<◌};
 ghost use Rattle.print.specs.Line.{laid};
+ghost use Rattle.print.specs.Seen.{seen};
 ghost use Rattle.rack.specs.File.{count_of, kind_at};
 ghost use Rattle.rack.specs.Facts.{TagFine, body_of};
 ghost use Rattle.trace.specs.Calm.{may_differ, Only};
@@ -15,9 +16,9 @@ use rack::whole::Rack;
 
 // A tag's line, where it has one.
 #[tactic(auto, using(print::proofs::Lines::lines, rack::proofs::TagKinds::label_sized, rack::proofs::TagKinds::chip_80), unfolding(crate::specs::Changes::tag_line))]
-fn put_tag_line<const N: usize>(line: &mut Line<N>, kind: Kind, a: &[u8], b: &[u8])
+fn put_tag_line(line: &mut Line, kind: Kind, a: &[u8], b: &[u8])
     requires { TagFine kind b.now }
-    ensures { line.new ≡ laid N line.old (tag_line kind a.now b.now) }
+    ensures { seen line.new ≡ laid (seen line.old) (tag_line kind a.now b.now) }
 {
     match kind {
         Kind::Label => put_label_line(line, a, b),
@@ -37,19 +38,19 @@ fn may_have_line(one: bool, uid: [u8; 8], rack: &Rack, i: usize) -> bool
 
 // Tag i's line, where it has one.
 #[tactic(auto, using(print::proofs::Lines::lines, rack::proofs::TagKinds::label_sized, rack::proofs::TagKinds::chip_80), unfolding(crate::specs::Changes::tag_line))]
-fn put_line_at<const N: usize>(line: &mut Line<N>, old: &Rack, new: &Rack, i: usize)
+fn put_line_at(line: &mut Line, old: &Rack, new: &Rack, i: usize)
     requires { (i < count_of old.now) × (i < count_of new.now) }
-    ensures { line.new ≡ laid N line.old (tag_line (kind_at new.now i) (body_of old.now i) (body_of new.now i)) }
+    ensures { seen line.new ≡ laid (seen line.old) (tag_line (kind_at new.now i) (body_of old.now i) (body_of new.now i)) }
 {
     put_tag_line(line, new.kind(i), old.body(i), new.body(i));
 }
 
 // The lines of all tags; of others than those that may have one none is looked for.
 #[tactic(auto, using(print::proofs::Lines::gathered), unfolding(crate::specs::Changes::lines_text, crate::specs::Calm::Only))]
-fn put_lines<const N: usize>(line: &mut Line<N>, one: bool, uid: [u8; 8], old: &Rack, new: &Rack)
+fn put_lines(line: &mut Line, one: bool, uid: [u8; 8], old: &Rack, new: &Rack)
     requires value { count_of old.now ≡ count_of new.now }
     requires only { Only one uid old.now new.now }
-    ensures { line.new ≡ laid N line.old (lines_text old.now new.now) }
+    ensures { seen line.new ≡ laid (seen line.old) (lines_text old.now new.now) }
 {
     for i in 0..new.count() {
         if may_have_line(one, uid, old, i) {
@@ -60,15 +61,9 @@ fn put_lines<const N: usize>(line: &mut Line<N>, one: bool, uid: [u8; 8], old: &
 
 // What changed between a rack and the one that an event left; where `one` holds, of the label with this UID alone.
 #[tactic(auto, using(print::proofs::Lines::lines), unfolding(crate::specs::Changes::changes_text))]
-pub fn put_changes<const N: usize>(
-    line: &mut Line<N>,
-    one: bool,
-    uid: [u8; 8],
-    old: &Rack,
-    new: &Rack,
-)
+pub fn put_changes(line: &mut Line, one: bool, uid: [u8; 8], old: &Rack, new: &Rack)
     requires { Only one uid old.now new.now }
-    ensures { line.new ≡ laid N line.old (changes_text old.now new.now) }
+    ensures { seen line.new ≡ laid (seen line.old) (changes_text old.now new.now) }
 {
     if old.count() == new.count() {
         put_lines(line, one, uid, old, new);

@@ -1,6 +1,7 @@
 // What changed of a chip: its body before, a, and behind an event, b.
 ghost use Rattle.std.specs.Prelude.{◌≡◌, ◌≤◌, length, get_or};
 ghost use Rattle.print.specs.Line.{laid};
+ghost use Rattle.print.specs.Seen.{seen};
 ghost use Rattle.trace.specs.Chips.{state_words, state_change, became_text, reload_change, chip_fields, counter_text, is_counter, word_text, word_change};
 ghost use Rattle.trace.specs.Chips.{word_lock, chip_block, chip_blocks, chip_changes, chip_told, told_line, chip_line};
 
@@ -21,8 +22,8 @@ struct Chip<'a> {
 }
 
 #[tactic(auto, using(print::proofs::Lines::lines), unfolding(crate::specs::Chips::state_words))]
-fn put_state<const N: usize>(line: &mut Line<N>, s: u8)
-    ensures { line.new ≡ laid N line.old (state_words s) }
+fn put_state(line: &mut Line, s: u8)
+    ensures { seen line.new ≡ laid (seen line.old) (state_words s) }
 {
     match s {
         0 => line.put(b", off"),
@@ -36,8 +37,8 @@ fn put_state<const N: usize>(line: &mut Line<N>, s: u8)
 
 // A label's is apart: other place, words and definition, and nothing but the test alike.
 #[tactic(auto, using(print::proofs::Lines::lines), unfolding(crate::specs::Chips::state_change))]
-fn put_state_change<const N: usize>(line: &mut Line<N>, a: &[u8], b: &[u8])
-    ensures { line.new ≡ laid N line.old (state_change (get_or a.now 76 0) (get_or b.now 76 0)) }
+fn put_state_change(line: &mut Line, a: &[u8], b: &[u8])
+    ensures { seen line.new ≡ laid (seen line.old) (state_change (get_or a.now 76 0) (get_or b.now 76 0)) }
 {
     let new = byte_at(b, 76);
     if byte_at(a, 76) != new {
@@ -47,8 +48,8 @@ fn put_state_change<const N: usize>(line: &mut Line<N>, a: &[u8], b: &[u8])
 
 // Reload on or off.
 #[tactic(auto, using(print::proofs::Lines::lines), unfolding(crate::specs::Chips::became_text))]
-fn put_became<const N: usize>(line: &mut Line<N>, on: u8)
-    ensures { line.new ≡ laid N line.old (became_text on) }
+fn put_became(line: &mut Line, on: u8)
+    ensures { seen line.new ≡ laid (seen line.old) (became_text on) }
 {
     if on == 1 {
         line.put(b", reload on");
@@ -58,8 +59,8 @@ fn put_became<const N: usize>(line: &mut Line<N>, on: u8)
 }
 
 #[tactic(auto, using(print::proofs::Lines::lines), unfolding(crate::specs::Chips::reload_change))]
-fn put_reload_change<const N: usize>(line: &mut Line<N>, a: &[u8], b: &[u8])
-    ensures { line.new ≡ laid N line.old (reload_change (get_or a.now 78 0) (get_or b.now 78 0)) }
+fn put_reload_change(line: &mut Line, a: &[u8], b: &[u8])
+    ensures { seen line.new ≡ laid (seen line.old) (reload_change (get_or a.now 78 0) (get_or b.now 78 0)) }
 {
     let new = byte_at(b, 78);
     if byte_at(a, 78) != new {
@@ -69,8 +70,8 @@ fn put_reload_change<const N: usize>(line: &mut Line<N>, a: &[u8], b: &[u8])
 
 // State, Chip_ID and reload.
 #[tactic(auto, using(print::proofs::Lines::lines), unfolding(crate::specs::Chips::chip_fields))]
-fn put_fields<const N: usize>(line: &mut Line<N>, a: &[u8], b: &[u8])
-    ensures { line.new ≡ laid N line.old (chip_fields a.now b.now) }
+fn put_fields(line: &mut Line, a: &[u8], b: &[u8])
+    ensures { seen line.new ≡ laid (seen line.old) (chip_fields a.now b.now) }
 {
     put_state_change(line, a, b);
     put_byte_change(line, b", Chip_ID ", a, b, 77);
@@ -79,8 +80,8 @@ fn put_fields<const N: usize>(line: &mut Line<N>, a: &[u8], b: &[u8])
 
 // Counter n and its value.
 #[tactic(auto, using(print::proofs::Lines::lines), unfolding(crate::specs::Chips::counter_text))]
-fn put_counter<const N: usize>(line: &mut Line<N>, n: u8, v: u32)
-    ensures { line.new ≡ laid N line.old (counter_text n v) }
+fn put_counter(line: &mut Line, n: u8, v: u32)
+    ensures { seen line.new ≡ laid (seen line.old) (counter_text n v) }
 {
     line.put(b", counter ");
     line.decimal(n as u64);
@@ -97,8 +98,8 @@ fn is_counter(n: u8) -> bool
 
 // Block n, or the counter that it is.
 #[tactic(auto, using(print::proofs::Lines::lines, crate::proofs::ChangeLaid::place_low, crate::proofs::ChangeLaid::part_of), unfolding(crate::specs::Chips::word_text))]
-fn put_word<const N: usize>(line: &mut Line<N>, c: &Chip, n: u8)
-    ensures { line.new ≡ laid N line.old (word_text c.now.after.now n) }
+fn put_word(line: &mut Line, c: &Chip, n: u8)
+    ensures { seen line.new ≡ laid (seen line.old) (word_text c.now.after.now n) }
 {
     if is_counter(n) {
         put_counter(line, n, block_of(c.after, n));
@@ -109,8 +110,8 @@ fn put_word<const N: usize>(line: &mut Line<N>, c: &Chip, n: u8)
 }
 
 #[tactic(auto, using(print::proofs::Lines::lines, crate::proofs::ChangeLaid::place_low), unfolding(crate::specs::Chips::word_change))]
-fn put_word_change<const N: usize>(line: &mut Line<N>, c: &Chip, n: u8)
-    ensures { line.new ≡ laid N line.old (word_change c.now.before.now c.now.after.now n) }
+fn put_word_change(line: &mut Line, c: &Chip, n: u8)
+    ensures { seen line.new ≡ laid (seen line.old) (word_change c.now.before.now c.now.after.now n) }
 {
     if !same_bytes(c.before, c.after, place(n), 4) {
         put_word(line, c, n);
@@ -118,8 +119,8 @@ fn put_word_change<const N: usize>(line: &mut Line<N>, c: &Chip, n: u8)
 }
 
 #[tactic(auto, using(print::proofs::Lines::lines), unfolding(crate::specs::Chips::word_lock))]
-fn put_word_lock<const N: usize>(line: &mut Line<N>, c: &Chip, n: u8)
-    ensures { line.new ≡ laid N line.old (word_lock c.now.before.now c.now.after.now n) }
+fn put_word_lock(line: &mut Line, c: &Chip, n: u8)
+    ensures { seen line.new ≡ laid (seen line.old) (word_lock c.now.before.now c.now.after.now n) }
 {
     let old = is_locked(block_of(c.before, 255), n);
     let new = is_locked(block_of(c.after, 255), n);
@@ -127,8 +128,8 @@ fn put_word_lock<const N: usize>(line: &mut Line<N>, c: &Chip, n: u8)
 }
 
 #[tactic(auto, using(print::proofs::Lines::lines), unfolding(crate::specs::Chips::chip_block))]
-fn put_block<const N: usize>(line: &mut Line<N>, c: &Chip, n: u8)
-    ensures { line.new ≡ laid N line.old (chip_block c.now.before.now c.now.after.now n) }
+fn put_block(line: &mut Line, c: &Chip, n: u8)
+    ensures { seen line.new ≡ laid (seen line.old) (chip_block c.now.before.now c.now.after.now n) }
 {
     put_word_change(line, c, n);
     put_word_lock(line, c, n);
@@ -136,8 +137,8 @@ fn put_block<const N: usize>(line: &mut Line<N>, c: &Chip, n: u8)
 
 // Blocks 0 to 15.
 #[tactic(auto, using(print::proofs::Lines::gathered), unfolding(crate::specs::Chips::chip_blocks))]
-fn put_blocks<const N: usize>(line: &mut Line<N>, c: &Chip)
-    ensures { line.new ≡ laid N line.old (chip_blocks c.now.before.now c.now.after.now) }
+fn put_blocks(line: &mut Line, c: &Chip)
+    ensures { seen line.new ≡ laid (seen line.old) (chip_blocks c.now.before.now c.now.after.now) }
 {
     for n in 0..16 {
         put_block(line, c, n);
@@ -145,8 +146,8 @@ fn put_blocks<const N: usize>(line: &mut Line<N>, c: &Chip)
 }
 
 #[tactic(auto, using(print::proofs::Lines::lines), unfolding(crate::specs::Chips::chip_changes))]
-fn put_chip_changes<const N: usize>(line: &mut Line<N>, c: &Chip)
-    ensures { line.new ≡ laid N line.old (chip_changes c.now.before.now c.now.after.now) }
+fn put_chip_changes(line: &mut Line, c: &Chip)
+    ensures { seen line.new ≡ laid (seen line.old) (chip_changes c.now.before.now c.now.after.now) }
 {
     put_fields(line, c.before, c.after);
     put_blocks(line, c);
@@ -163,8 +164,8 @@ fn is_told(a: &[u8], b: &[u8]) -> bool
 }
 
 #[tactic(auto, using(print::proofs::Lines::lines, crate::proofs::ChangeLaid::coloned_laid), unfolding(crate::specs::Chips::told_line, crate::specs::Chips::coloned_changes))]
-fn put_told<const N: usize>(line: &mut Line<N>, c: &Chip)
-    ensures { line.new ≡ laid N line.old (told_line c.now.before.now c.now.after.now) }
+fn put_told(line: &mut Line, c: &Chip)
+    ensures { seen line.new ≡ laid (seen line.old) (told_line c.now.before.now c.now.after.now) }
 {
     let from = open_line(line, b"  chip ", uid_of(c.after));
     put_chip_changes(line, c);
@@ -173,9 +174,9 @@ fn put_told<const N: usize>(line: &mut Line<N>, c: &Chip)
 
 // A chip's line, where it has one. (A label's has other lengths and texts.)
 #[tactic(auto, using(print::proofs::Lines::lines, crate::proofs::ChangeLaid::told_long), unfolding(crate::specs::Chips::chip_line))]
-pub fn put_chip_line<const N: usize>(line: &mut Line<N>, a: &[u8], b: &[u8])
+pub fn put_chip_line(line: &mut Line, a: &[u8], b: &[u8])
     requires { 80 ≤ length b.now }
-    ensures { line.new ≡ laid N line.old (chip_line a.now b.now) }
+    ensures { seen line.new ≡ laid (seen line.old) (chip_line a.now b.now) }
 {
     if is_told(a, b) {
         let chip = Chip {

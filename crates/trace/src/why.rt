@@ -1,6 +1,7 @@
 // Why nobody answered, in words.
 ghost use Rattle.std.specs.Prelude.{◌≡◌, ◌-◌, length};
 ghost use Rattle.print.specs.Line.{laid};
+ghost use Rattle.print.specs.Seen.{seen};
 ghost use Rattle.trace.specs.Words.{stands_text, should_text, sum_text, frame_text, chip_frame_text, slot_text, reason_text, why_text};
 
 use crate::reason::{Reason, reason_of};
@@ -19,16 +20,16 @@ fn sum_place(len: usize) -> usize
 
 // A frame's check sum, as it stands.
 #[tactic(auto, using(print::proofs::Lines::lines), unfolding(crate::specs::Words::stands_text))]
-fn put_stands<const N: usize>(line: &mut Line<N>, f: &[u8])
-    ensures { line.new ≡ laid N line.old (stands_text f.now) }
+fn put_stands(line: &mut Line, f: &[u8])
+    ensures { seen line.new ≡ laid (seen line.old) (stands_text f.now) }
 {
     line.hex(&f[sum_place(f.len())..]);
 }
 
 // And as it should be.
 #[tactic(auto, using(print::proofs::Lines::lines), unfolding(crate::specs::Words::should_text))]
-fn put_should<const N: usize>(line: &mut Line<N>, f: &[u8])
-    ensures { line.new ≡ laid N line.old (should_text f.now) }
+fn put_should(line: &mut Line, f: &[u8])
+    ensures { seen line.new ≡ laid (seen line.old) (should_text f.now) }
 {
     let sum = sum_of(&f[..sum_place(f.len())]);
     line.hex(&sum.to_le_bytes());
@@ -36,8 +37,8 @@ fn put_should<const N: usize>(line: &mut Line<N>, f: &[u8])
 
 // A wrong check sum.
 #[tactic(auto, using(print::proofs::Lines::lines), unfolding(crate::specs::Words::sum_text))]
-fn put_wrong_sum<const N: usize>(line: &mut Line<N>, f: &[u8])
-    ensures { line.new ≡ laid N line.old (sum_text f.now) }
+fn put_wrong_sum(line: &mut Line, f: &[u8])
+    ensures { seen line.new ≡ laid (seen line.old) (sum_text f.now) }
 {
     line.put(b"check sum wrong:");
     put_stands(line, f);
@@ -46,8 +47,8 @@ fn put_wrong_sum<const N: usize>(line: &mut Line<N>, f: &[u8])
 }
 
 #[tactic(auto, using(print::proofs::Lines::lines), unfolding(crate::specs::Words::frame_text))]
-fn put_frame<const N: usize>(line: &mut Line<N>, why: Why, f: &[u8])
-    ensures { line.new ≡ laid N line.old (frame_text why f.now) }
+fn put_frame(line: &mut Line, why: Why, f: &[u8])
+    ensures { seen line.new ≡ laid (seen line.old) (frame_text why f.now) }
 {
     match why {
         Why::Acts => line.put(b"nobody answered"),
@@ -68,8 +69,8 @@ fn put_frame<const N: usize>(line: &mut Line<N>, why: Why, f: &[u8])
 }
 
 #[tactic(auto, using(print::proofs::Lines::lines), unfolding(crate::specs::Words::chip_frame_text))]
-fn put_chip_frame<const N: usize>(line: &mut Line<N>, why: WhyChip, f: &[u8])
-    ensures { line.new ≡ laid N line.old (chip_frame_text why f.now) }
+fn put_chip_frame(line: &mut Line, why: WhyChip, f: &[u8])
+    ensures { seen line.new ≡ laid (seen line.old) (chip_frame_text why f.now) }
 {
     match why {
         WhyChip::Heard => line.put(b"no chip answered"),
@@ -81,8 +82,8 @@ fn put_chip_frame<const N: usize>(line: &mut Line<N>, why: WhyChip, f: &[u8])
 
 // Words and a slot behind them.
 #[tactic(auto, using(print::proofs::Lines::lines), unfolding(crate::specs::Words::slot_text))]
-fn put_slot<const N: usize>(line: &mut Line<N>, words: &[u8], s: u8)
-    ensures { line.new ≡ laid N line.old (slot_text words.now s) }
+fn put_slot(line: &mut Line, words: &[u8], s: u8)
+    ensures { seen line.new ≡ laid (seen line.old) (slot_text words.now s) }
 {
     line.put(words);
     line.decimal(s as u64);
@@ -90,8 +91,8 @@ fn put_slot<const N: usize>(line: &mut Line<N>, words: &[u8], s: u8)
 
 // Why nobody answered.
 #[tactic(auto, using(print::proofs::Lines::lines), unfolding(crate::specs::Words::reason_text))]
-fn put_reason<const N: usize>(line: &mut Line<N>, reason: Reason, f: &[u8])
-    ensures { line.new ≡ laid N line.old (reason_text reason f.now) }
+fn put_reason(line: &mut Line, reason: Reason, f: &[u8])
+    ensures { seen line.new ≡ laid (seen line.old) (reason_text reason f.now) }
 {
     match reason {
         Reason::Other => line.put(b"no such event"),
@@ -123,14 +124,8 @@ fn put_reason<const N: usize>(line: &mut Line<N>, reason: Reason, f: &[u8])
 
 // Why nobody answered event `number` with a frame, which asks what the signal says, by the rack that it left.
 #[tactic(auto, using(print::proofs::Lines::lines), unfolding(crate::specs::Words::why_text))]
-pub fn put_why<const N: usize>(
-    line: &mut Line<N>,
-    number: u8,
-    frame: &[u8],
-    signal: Signal,
-    rack: &Rack,
-)
-    ensures { line.new ≡ laid N line.old (why_text number frame.now signal rack.now) }
+pub fn put_why(line: &mut Line, number: u8, frame: &[u8], signal: Signal, rack: &Rack)
+    ensures { seen line.new ≡ laid (seen line.old) (why_text number frame.now signal rack.now) }
 {
     let why = reason_of(number, frame, signal, rack);
     put_reason(line, why, frame);

@@ -12,13 +12,15 @@ pub fn play_event(rt: &HostRuntime, tags: &mut [u8], number: u8, frame: &[u8], d
     let mut answer = [0u8; LEAST];
     let n = draws_for(tags, draws.len());
     let report = event(tags, number, frame, part_of(draws, 0, n), &mut answer);
-    let mut line = Line::<32768>::new();
+    let mut room = [0u8; 32768];
+    let mut line = Line::new(&mut room);
     put_reply(&mut line, report, &answer);
     say(rt, line.text());
 }
 
 pub fn print_trouble(rt: &HostRuntime, trouble: Trouble) {
-    let mut line = Line::<128>::new();
+    let mut room = [0u8; 128];
+    let mut line = Line::new(&mut room);
     put_trouble(&mut line, trouble);
     say(rt, line.text());
 }

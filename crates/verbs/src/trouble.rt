@@ -1,6 +1,7 @@
 // What is wrong with a line, and its text.
 ghost use Rattle.std.specs.Prelude.{◌≡◌};
 ghost use Rattle.print.specs.Line.{laid};
+ghost use Rattle.print.specs.Seen.{seen};
 ghost use Rattle.verbs.specs.Trouble.{column_of, no, what_text, expected_text, trouble_text};
 
 use print::line::Line;
@@ -79,8 +80,8 @@ impl What {
 }
 
 #[tactic(auto, using(print::proofs::Lines::lines), unfolding(crate::specs::Trouble::expected_text))]
-fn put_expected<const N: usize>(line: &mut Line<N>, column: u64, what: What)
-    ensures { line.new ≡ laid N line.old (expected_text column what) }
+fn put_expected(line: &mut Line, column: u64, what: What)
+    ensures { seen line.new ≡ laid (seen line.old) (expected_text column what) }
 {
     line.put(b"column ");
     line.decimal(column);
@@ -89,8 +90,8 @@ fn put_expected<const N: usize>(line: &mut Line<N>, column: u64, what: What)
 }
 
 #[tactic(auto, unfolding(crate::specs::Trouble::trouble_text))]
-pub fn put_trouble<const N: usize>(line: &mut Line<N>, trouble: Trouble)
-    ensures { line.new ≡ laid N line.old (trouble_text trouble) }
+pub fn put_trouble(line: &mut Line, trouble: Trouble)
+    ensures { seen line.new ≡ laid (seen line.old) (trouble_text trouble) }
 {
     match trouble {
         Trouble::Expected(column, what) => put_expected(line, column, what),

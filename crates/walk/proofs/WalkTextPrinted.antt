@@ -14,7 +14,7 @@ use Rattle.inventory.specs.Walk.{refusal_of, walk_of}
 use Rattle.inventory.specs.Promise.{Promise}
 use Rattle.inventory.proofs.Promise.{accepted, walk_carried, walk_refused}
 use Rattle.inventory.proofs.WalkUids.{uids_few}
-use Rattle.print.specs.Line.{laid}
+use Rattle.print.specs.Line.{Lent, laid}
 use Rattle.print.specs.Puts.{within, Puts}
 use Rattle.print.proofs.Lines.{laid_whole}
 use Rattle.print.proofs.Puts.{puts_length}
@@ -35,13 +35,20 @@ few_labels {family} {r} {r₁} {list} {list₁} w e f =
     (same_or_not (refusal_of r (length list)) 0)
 
 -- the text of the walk's report and list is what is printed of the rack, and there is room for all of it
-pub printed_all : (family : Family) (rack : List ℕ) {w : Walked} {list line : List ℕ} → w ≡ (walk_of rack family (replicate 512 0)).report
-    → list ≡ (walk_of rack family (replicate 512 0)).list → w.number < 256 → w.rounds < 2 ^ 64 → 8 * w.labels ≤ 512 → length list ≡ 512
-    → line ≡ laid 1117 [] (walk_text w list) → line ≡ printed family rack
+pub printed_laid : (family : Family) (rack : List ℕ) (line : Lent) {w : Walked} {list : List ℕ} {line₁ : Lent}
+    → w ≡ (walk_of rack family (replicate 512 0)).report → list ≡ (walk_of rack family (replicate 512 0)).list → line₁ ≡ laid line (walk_text w list)
+    → line₁ ≡ laid line (printed family rack)
 unfolding printed
-printed_all family rack {w} {list} {line} e f a b l m p =
+printed_laid family rack line e f p = p ∙ ap (laid line) (ap₂ walk_text e f)
+
+pub printed_all : (family : Family) (rack : List ℕ) (line : Lent) {w : Walked} {list : List ℕ} {line₁ : Lent}
+    → w ≡ (walk_of rack family (replicate 512 0)).report → list ≡ (walk_of rack family (replicate 512 0)).list → w.number < 256 → w.rounds < 2 ^ 64
+    → 8 * w.labels ≤ 512 → length list ≡ 512 → line.text ≡ [] → 1117 ≤ length line.behind → line₁ ≡ laid line (walk_text w list)
+    → line₁.text ≡ printed family rack
+unfolding printed
+printed_all family rack line {w} {list} e f a b l m v o p =
     let s = walk_short w list a b (omega arith) in
-    p ∙ laid_whole 1117 (walk_text w list) (omega arith) ∙ ap₂ walk_text e f
+    ap (λ (x : Lent). x.text) p ∙ laid_whole line (walk_text w list) v (omega arith) ∙ ap₂ walk_text e f
 
 -- and laid into a buffer with room for as many bytes, it stands at the front, and the place behind it is its length
 pub printed_part : (family : Family) (rack out : List ℕ) {w : Walked} {list : List ℕ} {n : ℕ} {fin : List ℕ} → w ≡ (walk_of rack family (replicate 512 0)).report

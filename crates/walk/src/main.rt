@@ -4,7 +4,8 @@
 mod asked;
 
 ghost use Rattle.std.specs.Prelude.{◌≡◌, ◌*◌, ◌≤◌, length, IfSome};
-ghost use Rattle.print.specs.Line.{laid};
+ghost use Rattle.print.specs.Line.{lent, laid};
+ghost use Rattle.print.specs.Seen.{seen};
 ghost use Rattle.walk.specs.WalkText.{uid_lines, walk_text, printed};
 
 use crate::asked::afi_in;
@@ -23,9 +24,9 @@ const ROOM: usize = 29 + 17 * 64;
 
 // The UIDs of the first n labels of a list, a line each.
 #[tactic(auto, using(print::proofs::Lines::lines, crate::proofs::WalkTextPuts::uids_more))]
-fn put_uids<const N: usize>(line: &mut Line<N>, list: &[u8], n: usize)
+fn put_uids(line: &mut Line, list: &[u8], n: usize)
     requires { 8 * n ≤ length list.now }
-    ensures { line.new ≡ laid N line.old (uid_lines n list.now) }
+    ensures { seen line.new ≡ laid (seen line.old) (uid_lines n list.now) }
 {
     for i in 0..n {
         line.uid(uid_at(list, 8 * i));
@@ -35,9 +36,9 @@ fn put_uids<const N: usize>(line: &mut Line<N>, list: &[u8], n: usize)
 
 // What is printed of a walk.
 #[tactic(auto, using(print::proofs::Lines::lines), unfolding(crate::specs::WalkText::walk_text))]
-fn put_walk<const N: usize>(line: &mut Line<N>, walked: Walked, list: &[u8])
+fn put_walk(line: &mut Line, walked: Walked, list: &[u8])
     requires { 8 * walked.labels ≤ length list.now }
-    ensures { line.new ≡ laid N line.old (walk_text walked list.now) }
+    ensures { seen line.new ≡ laid (seen line.old) (walk_text walked list.now) }
 {
     if walked.number != 0 {
         line.number_line(b"refused ", walked.number as u64);
@@ -47,13 +48,14 @@ fn put_walk<const N: usize>(line: &mut Line<N>, walked: Walked, list: &[u8])
     put_uids(line, list, walked.labels);
 }
 
-// Walks a rack with a family, and lays what is printed of it.
-fn printed(family: Family, tags: &mut [u8]) -> Line<ROOM>
-    ensures { result ≡ printed family tags.old }
+// Walks a rack with a family, and lays what is printed of it into the room that is lent.
+fn printed<'a>(room: &'a mut [u8], family: Family, tags: &mut [u8]) -> Line<'a>
+    ensures laid { seen result ≡ laid (lent room.old 0 room.entry.ghost_name) (printed family tags.old) }
+    ensures whole { 1117 ≤ length room.old → (seen result).text ≡ printed family tags.old }
 {
     let mut list = [0u8; 512];
     let walked = walk(tags, family, &mut list);
-    let mut line = Line::new();
+    let mut line = Line::new(room);
     put_walk(&mut line, walked, &list);
     line
 }
@@ -76,7 +78,8 @@ fn run(rt: &HostRuntime, family: Family, i: usize) {
     }
     let mut tags = [0u8; 65537];
     if let Some(len) = load_rack(rt, i, &mut tags) {
-        let line = printed(family, &mut tags[..len]);
+        let mut room = [0u8; ROOM];
+        let line = printed(&mut room, family, &mut tags[..len]);
         say(rt, line.text());
     }
 }

@@ -26,7 +26,7 @@ returns-in-Ok-Nothing c =
     let a = c.args in
     let x = c.action_of.ensures in
     line_turned a.line.now a.draws.now a.bytes.now a.tags.now x.value x.draws_after x.bytes_after a.quiet a.n 0 0
-    (Ok act.Nothing) (c.in-Ok-Nothing.is ∙ ap Ok c.in-Ok-Nothing.field-0-is) refl c.requires refl (sym (laid_none _ _))
+    (Ok act.Nothing) (c.in-Ok-Nothing.is ∙ ap Ok c.in-Ok-Nothing.field-0-is) refl c.requires refl (sym (laid_none _))
 
 pub returns-in-Ok-Play : goal.returns-in-Ok-Play
 returns-in-Ok-Play c =

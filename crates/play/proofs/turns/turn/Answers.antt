@@ -13,4 +13,4 @@ returns-in-Long c =
 
 pub returns-in-End : goal.returns-in-End
 returns-in-End c =
-    rw c.in-End.is (record { leaves = record { rack = refl; drawn = refl; read = refl }; fine = c.requires; text = sym (laid_none _ _) })
+    rw c.in-End.is (record { leaves = record { rack = refl; drawn = refl; read = refl }; fine = c.requires; text = sym (laid_none _) })

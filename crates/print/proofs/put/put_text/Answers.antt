@@ -1,13 +1,11 @@
--- No room at all, room for a part, room for all. Assumes nothing.
-use Rattle.std.proofs.Common.{rules, arith}
-use Rattle.print.proofs.Puts.{puts_past, puts_some}
+-- What a line over the buffer leaves is what the buffer holds when the loan ends. Assumes nothing.
+use Rattle.std.proofs.Common.{ap, ◌∙◌}
+use Rattle.print.specs.Line.{Lent, laid}
+use Rattle.print.proofs.Lent.{line_loan, line_puts}
 use Rattle.print.proofs.put.put_text.Goals as goal
 
-pub returns-then-out-at : goal.returns-then-out-at
-returns-then-out-at c = puts_past _ _ _ (search rules)
-
-pub returns-then-room-s : goal.returns-then-room-s
-returns-then-room-s c = puts_some _ _ _ _ (omega arith) (omega arith) c.put_bytes.ensures
-
 pub returns : goal.returns
-returns c = puts_some _ _ _ _ (omega arith) (omega arith) c.put_bytes-2.ensures
+returns c =
+    let a = c.args in
+    let e = c.put.ensures ∙ ap (λ (l : Lent). laid l a.s.now) c.at-line.ensures in
+    rw (c.out-1.given.1.1 (line_loan _ _ _ e)) (line_puts _ a.s.now a.out.now a.at _ e c.len.ensures)

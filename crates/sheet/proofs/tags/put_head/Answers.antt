@@ -5,4 +5,4 @@ use Rattle.sheet.proofs.tags.put_head.Goals as goal
 
 pub returns : goal.returns
 unfolding head_text
-returns g c = search long_lines
+returns c = search long_lines

@@ -5,4 +5,4 @@ use Rattle.tell.proofs.name.put_status.Goals as goal
 
 pub returns : goal.returns
 unfolding status_text
-returns g c = search long_lines
+returns c = search long_lines

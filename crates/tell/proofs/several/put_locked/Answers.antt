@@ -6,4 +6,4 @@ use Rattle.tell.proofs.several.put_locked.Goals as goal
 
 pub returns-else-are_unlocked : goal.returns-else-are_unlocked
 unfolding locked_text
-returns-else-are_unlocked g c = rw (sym c.are_unlocked.ensures ∙ c.if-are_unlocked.false) (search long_lines)
+returns-else-are_unlocked c = rw (sym c.are_unlocked.ensures ∙ c.if-are_unlocked.false) (search long_lines)

@@ -2,8 +2,9 @@
 use Rattle.std.proofs.Common.{◌≡◌}
 use Rattle.frame.specs.Choose.{gather}
 use Rattle.print.specs.Line.{laid}
+use Rattle.print.specs.Seen.{seen}
 use Rattle.trace.specs.Chips.{chip_block}
 use Rattle.trace.proofs.chips.put_blocks.Given as goal
 
 abbrev pub invariant-loop-n : goal.invariant-loop-n
-invariant-loop-n g l = l.line ≡ laid g.row.N l.initial.line (gather l.n (chip_block l.c.before.now l.c.after.now))
+invariant-loop-n l = seen l.line ≡ laid (seen l.initial.line) (gather l.n (chip_block l.c.before.now l.c.after.now))

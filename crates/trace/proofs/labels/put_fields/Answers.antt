@@ -5,4 +5,4 @@ use Rattle.trace.proofs.labels.put_fields.Goals as goal
 
 pub returns : goal.returns
 unfolding label_fields
-returns g c = search long_lines
+returns c = search long_lines

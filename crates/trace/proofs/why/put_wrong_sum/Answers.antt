@@ -5,4 +5,4 @@ use Rattle.trace.proofs.why.put_wrong_sum.Goals as goal
 
 pub returns : goal.returns
 unfolding sum_text
-returns g c = search long_lines
+returns c = search long_lines
