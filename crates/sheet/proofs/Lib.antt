@@ -1,3 +1,4 @@
 -- The laws of a rack as text.
 pub mod BlocksShown
 pub mod LabelsMask
+pub mod RefusalNumbers

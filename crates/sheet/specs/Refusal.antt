@@ -1,6 +1,7 @@
 -- Why a rack is refused, in words. Assumes nothing.
 use Rattle.std.specs.Prelude.{List, [], ◌++◌, ℕ, ◌-◌, eqb, if◌then◌else◌, Ok, Err}
 use Rattle.frame.specs.Judge.{Verdict}
+use Rattle.frame.specs.declared.verdict.Offence.{Offence}
 use Rattle.frame.specs.declared.verdict.Rule.{Rule}
 use Rattle.frame.specs.declared.verdict.Rule.TheVariants.{Length, Head, Entry, Body, Behind}
 use Rattle.label_body.specs.declared.field.Field as label
@@ -69,6 +70,18 @@ rule_words r Head place = head_words place
 rule_words r Entry place = tag_words (entry_of place) ++ entry_words (within_entry place)
 rule_words r Body place = held_words r place
 rule_words r Behind place = ascii "bytes behind the last tag"
+
+-- the rule that a number names: every number but the first four names the last
+unfoldable pub rule_of : ℕ → Rule
+rule_of number =
+    if eqb number 10 then Length
+    else if eqb number 11 then Head
+    else if eqb number 12 then Entry
+    else if eqb number 13 then Body
+    else Behind
+
+abbrev pub offence_of : ℕ → ℕ → Offence
+offence_of number place = record { rule = rule_of number; place = place }
 
 -- a verdict that names no offence has the last words, at byte 0
 abbrev pub words_for : List ℕ → Verdict → List ℕ

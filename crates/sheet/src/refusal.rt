@@ -2,10 +2,10 @@
 ghost use Rattle.std.specs.Prelude.{◌≡◌, ◌-◌};
 ghost use Rattle.print.specs.Line.{laid};
 ghost use Rattle.print.specs.Seen.{seen};
-ghost use Rattle.sheet.specs.Refusal.{head_words, entry_words, lock_words, label_words, chip_words, body_words, tag_words, held_words, rule_words, words_for, place_of, refusal_text};
+ghost use Rattle.sheet.specs.Refusal.{head_words, entry_words, lock_words, label_words, chip_words, body_words, tag_words, held_words, rule_words, rule_of, offence_of, words_for, place_of, refusal_text};
 
 use chip_body::field as chip_field;
-use frame::verdict::{Rule, Verdict};
+use frame::verdict::{Offence, Rule, Verdict};
 use label_body::field as label_field;
 use print::line::Line;
 use rack::place::{entry_holding, holder, within_entry};
@@ -106,6 +106,30 @@ fn put_rule_words(line: &mut Line, rack: &[u8], rule: Rule, place: usize)
         }
         Rule::Body => put_held_words(line, rack, place),
         Rule::Behind => line.put(b"bytes behind the last tag"),
+    }
+}
+
+// The rule that a number names: every number but the first four names the last.
+#[tactic(auto, unfolding(crate::specs::Refusal::rule_of))]
+fn rule_of(number: u8) -> Rule
+    ensures { result ≡ rule_of number }
+{
+    match number {
+        10 => Rule::Length,
+        11 => Rule::Head,
+        12 => Rule::Entry,
+        13 => Rule::Body,
+        _ => Rule::Behind,
+    }
+}
+
+// The offence that a number and a place tell, whatever they are: for who has a refusal as numbers.
+pub fn offence_of(number: u8, place: usize) -> Offence
+    ensures { result ≡ offence_of number place }
+{
+    Offence {
+        rule: rule_of(number),
+        place,
     }
 }
 
