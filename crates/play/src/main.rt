@@ -19,6 +19,8 @@ use text::args::{PATH_MAX, count, path, word};
 use text::file::load;
 use text::save::save;
 
+// Not inlined, as `leave` is not, so that what the one lays on the stack is gone when the other needs it.
+#[inline(never)]
 fn play_all(rt: &HostRuntime, quiet: bool, tags: &mut [u8]) -> bool
     requires { RackFine tags.old }
 {
@@ -28,6 +30,7 @@ fn play_all(rt: &HostRuntime, quiet: bool, tags: &mut [u8]) -> bool
 }
 
 // Where argument i names a NEXT, the rack left goes to it.
+#[inline(never)]
 fn leave(rt: &HostRuntime, i: usize, tags: &[u8]) {
     if count(rt) <= i {
         return;

@@ -71,7 +71,8 @@ fn load_path(rt: &HostRuntime, path: &[u8], out: &mut [u8]) -> Option<usize>
 }
 
 // Reads the file that argument i names to the front of out: its length, or None where it failed, which is written to standard error; `name` stands
-// for the argument where it is too long for a path.
+// for the argument where it is too long for a path. Not inlined, so that the stack holds its path no longer than it reads.
+#[inline(never)]
 pub fn load(rt: &HostRuntime, i: usize, name: &[u8], out: &mut [u8]) -> Option<usize>
     ensures { IfSome result (λ n. n ≤ length out.new) }
 {
